@@ -1,0 +1,10 @@
+pub mod Booleans
+pub mod MaskLaws
+pub mod PlaceLaws
+pub mod HandoutLaws
+pub mod Ladder
+pub mod CurrentKept
+pub mod InvariantsKept
+pub mod SoundExactly
+pub mod GuardExactly
+pub mod CellLaws

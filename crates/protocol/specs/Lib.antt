@@ -1,0 +1,15 @@
+pub mod Names
+pub mod Masks
+pub mod Slices
+pub mod Cell
+pub mod Soundness
+pub mod First
+pub mod Guards
+pub mod Effects
+pub mod Step
+pub mod Check
+pub mod Fresh
+pub mod Runs
+pub mod Handout
+pub mod CoherentMemory
+pub mod AsHandout

@@ -1,0 +1,48 @@
+-- A run of a list of actions: the table at its end, its log, and the latest accepted write that a log tells of. Assumes nothing.
+use mathlib.Core.Bool.{Bool, cond, _&&_}
+use mathlib.Core.List.{List, [], _∷_}
+use Prim.Native.Nat.{ℕ, _≤_}
+use lib.Dec.{eqb}
+use Rattle.protocol.specs.declared.Action.{Action}
+use Rattle.protocol.specs.declared.Answer.{Answer}
+use Rattle.protocol.specs.Slices.{Table}
+use Rattle.protocol.specs.Step.{answer, tableAfter}
+
+-- "Rules 1 to 4 are the coherent ones"
+abbrev pub CoherentRule : (rule : ℕ) → Type 0
+CoherentRule rule = (1 ≤ rule) × (rule ≤ 4)
+
+unfoldable pub tableAfterAll : (rule boards cells : ℕ) → Table → List Action → Table
+tableAfterAll rule boards cells t [] = t
+tableAfterAll rule boards cells t (a ∷ rest) = tableAfterAll rule boards cells (tableAfter rule boards cells t a) rest
+
+-- a line of a log: an action, and what its caller was told
+pub record Line : Type 0 where
+  pub action : Action
+  pub told : Answer
+
+unfoldable pub log : (rule boards cells : ℕ) → Table → List Action → List Line
+log rule boards cells t [] = []
+log rule boards cells t (a ∷ rest) = record { action = a; told = answer rule boards cells t a } ∷ log rule boards cells (tableAfter rule boards cells t a) rest
+
+unfoldable pub isRead : (code : ℕ) → Bool
+isRead code = eqb code 0
+
+unfoldable pub isWrite : (code : ℕ) → Bool
+isWrite code = eqb code 1
+
+unfoldable pub acceptedRead : Line → Bool
+acceptedRead l = eqb (l .told .number) 0 && isRead (l .action .code)
+
+unfoldable pub acceptedWrite : Line → Bool
+acceptedWrite l = eqb (l .told .number) 0 && isWrite (l .action .code)
+
+-- the latest accepted write to a cell by any board; the starting value where there is none. It looks at actions and answers alone.
+unfoldable pub latestWrite : (cell starting : ℕ) → List Line → ℕ
+latestWrite cell starting [] = starting
+latestWrite cell starting (l ∷ ls) = latestWrite cell (cond (acceptedWrite l && eqb (l .action .cell) cell) (l .action .value) starting) ls
+
+-- the members of a list that name a cell, in their order
+unfoldable pub naming {ℓ} : {A : Type ℓ} → (cellNumber : A → ℕ) → (cell : ℕ) → List A → List A
+naming cellNumber cell [] = []
+naming cellNumber cell (a ∷ rest) = cond (eqb (cellNumber a) cell) (a ∷ naming cellNumber cell rest) (naming cellNumber cell rest)
