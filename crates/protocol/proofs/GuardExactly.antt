@@ -73,7 +73,7 @@ module _ (P : ℕ) (x : Cell) where
   lives : (p : ℕ) → (not (hasBoard (liveMask x) p) ≡ false) ↔ Live P (asState x) p
   lives p = ((λ e. live-is P x p .0 (not-false _ e)), λ y. rw (live-is P x p .1 y))
 
-  nil-is : (p : ℕ) → (hasBoard (liveMask x) p ≡ false) ↔ (asState x .c p ≡ none)
+  pub nil-is : (p : ℕ) → (hasBoard (liveMask x) p ≡ false) ↔ (asState x .c p ≡ none)
   unfolding asState
   nil-is p = ((λ e. rw e), λ n. not-so _ (λ h. live-is P x p .0 h n))
 

@@ -6,7 +6,7 @@ use mathlib.Core.Option.{Option, some, none}
 use Prim.Native.Nat.{ℕ, _<_}
 use Rattle.protocol.specs.Names.{Rule, IncoherentMemory, GlobalImpl, CurrentCaches, ExclusiveLocks0, ExclusiveLocks}
 use Rattle.protocol.specs.Names.{Proc, Read, Write, Barrier, MtoC, CtoM, CtoC, Drop, Acquire, Release}
-use Rattle.protocol.specs.Handout.{State, Live, Clean, Free, Only, Current, Guard, Inv2, Inv4, Inv5, Inv6, Inv7, Invariants}
+use Rattle.protocol.specs.Handout.{State, Live, Clean, Free, Only, Current, Guard, Inv2, Inv3, Inv4, Inv5, Inv6, Inv7, Invariants}
 use Rattle.protocol.proofs.Booleans.{clash, not-so}
 use Rattle.protocol.proofs.HandoutLaws.{Among, not-nil}
 
@@ -111,3 +111,19 @@ module _ (P : ℕ) (h : State) where
   down CurrentCaches i a l g = to-incoherent a (down-to-global CurrentCaches tt i a l g)
   down ExclusiveLocks0 i a l g = to-incoherent a (down-to-global ExclusiveLocks0 tt i a l g)
   down ExclusiveLocks i a l g = to-incoherent a (down-to-global ExclusiveLocks tt i a l g)
+
+  -- ---- which invariants a rule has
+
+  pub inv2-of : (r : Rule) → Invariants P h r → Inv2 P h
+  inv2-of IncoherentMemory i = i .1
+  inv2-of GlobalImpl i = i .1
+  inv2-of CurrentCaches i = i .1
+  inv2-of ExclusiveLocks0 i = i .1
+  inv2-of ExclusiveLocks i = i .1
+
+  pub inv3-of : (r : Rule) → Coherent r → Invariants P h r → Inv3 P h
+  inv3-of IncoherentMemory k i = absurd k
+  inv3-of GlobalImpl k i = i .2
+  inv3-of CurrentCaches k i = i .2
+  inv3-of ExclusiveLocks0 k i = i .2
+  inv3-of ExclusiveLocks k i = i .2

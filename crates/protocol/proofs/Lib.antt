@@ -8,3 +8,15 @@ pub mod InvariantsKept
 pub mod SoundExactly
 pub mod GuardExactly
 pub mod CellLaws
+pub mod EffectExactly
+pub mod FirstLaws
+pub mod NumberLaws
+pub mod StepLaws
+pub mod Demand1
+pub mod CheckExactly
+pub mod FreshExactly
+pub mod Demand2
+pub mod Slips
+pub mod Demand3Order
+pub mod FreshLaws
+pub mod Demand3Reads

@@ -1,0 +1,151 @@
+-- Demand 2: where no refusal that the handout does not know of holds, an action is accepted exactly when the handout's guard holds; accepted,
+-- it has the handout's value and next state, every other cell stays, and no other table has these. Assumes nothing.
+use mathlib.Core.Path.{_≡_, refl, sym, ap, _∙_, fun-ext}
+use mathlib.Core.Logic.{_≢_, _↔_}
+use mathlib.Core.Bool.{Bool, true, false, cond, not}
+use mathlib.Core.List.{List, [], _∷_}
+use mathlib.Core.Option.{Option, some, none}
+use Prim.Native.Nat.{ℕ, zero, suc, _<_, _≤_}
+use native.Mathlib.Omega.{arith}
+use native.Mathlib.Decide.{ℕ-discrete, decLt}
+use lib.Dec.{eqb}
+use borrow.Author.Tests.{eq-eqb, not-false, ltb-false}
+use Rattle.protocol.specs.declared.Action.{Action}
+use Rattle.protocol.specs.declared.Answer.{Answer}
+use Rattle.protocol.specs.Names.{Rule, ruleOf, procOf}
+use Rattle.protocol.specs.Names.{Proc, Drop, Release}
+use Rattle.protocol.specs.Masks.{hasBoard}
+use Rattle.protocol.specs.Slices.{Slice, main, copies, masks, Table, sizesGood, cellByCell, width}
+use Rattle.protocol.specs.Cell.{Cell, mainValue, copyAt, liveMask, dirtyMask, lockMask, cellOf}
+use Rattle.protocol.specs.Soundness.{sound}
+use Rattle.protocol.specs.First.{NoneHolds}
+use Rattle.protocol.specs.Guards.{guard}
+use Rattle.protocol.specs.Effects.{effect}
+use Rattle.protocol.specs.Step.{seen, refusals, answerTo, answer, tableAfter}
+use Rattle.protocol.specs.Handout.{State, Guard, Effect, Value, setAt}
+use Rattle.protocol.specs.AsHandout.{asState, Stands, inHandout, NoOtherHolds}
+use Rattle.protocol.proofs.Booleans.{clash, not-so}
+use Rattle.protocol.proofs.MaskLaws.{same-mask}
+use Rattle.protocol.proofs.HandoutLaws.{not-nil, set-at}
+use Rattle.protocol.proofs.PlaceLaws.{by-cell}
+use Rattle.protocol.proofs.CellLaws.{stores, sizes-of, same-table, nothing-above}
+use Rattle.protocol.proofs.SoundExactly.{sound-exactly}
+use Rattle.protocol.proofs.GuardExactly.{guard-exactly}
+use Rattle.protocol.proofs.EffectExactly.{next-state, next-value, sound-kept}
+use Rattle.protocol.proofs.NumberLaws.{has-exactly}
+use Rattle.protocol.proofs.StepLaws.{formed, Accepted, accepted, accepted-value, cellAfter, step-sizes, step-here, step-there}
+use Rattle.protocol.proofs.Demand1.{accepted-exactly}
+
+-- ---- accepted exactly when the guard holds
+
+-- an action that the rule's module does not have has no guard, and is never accepted
+pub accepted-when-allowed : (rule boards cells : ℕ) (t : Table) (a : Action) → NoOtherHolds (refusals rule boards cells (seen boards cells t (a .cell)) a) →
+    (answer rule boards cells t a .number ≡ 0) ↔ Guard boards (asState (cellOf boards cells t (a .cell))) (ruleOf rule) (procOf a)
+unfolding answer seen refusals inHandout
+accepted-when-allowed rule boards cells t a quiet = (
+  (λ e. accepted rule boards cells (seen boards cells t (a .cell)) a e .guarded),
+  λ g. accepted-exactly rule boards cells t a .1 (back quiet g),
+)
+  where
+    x : Cell
+    x = cellOf boards cells t (a .cell)
+
+    back : NoOtherHolds (refusals rule boards cells (seen boards cells t (a .cell)) a) → Guard boards (asState x) (ruleOf rule) (procOf a) → NoneHolds (refusals rule boards cells (seen boards cells t (a .cell)) a)
+    back (n1, (n2, (n3, (n4, (n5, (n6, (n7, rest))))))) g =
+        let f = formed rule boards cells (seen boards cells t (a .cell)) a quiet in
+        let S = sound-exactly (ruleOf rule) boards x .0 (f .3) in
+        let k = guard-exactly boards x (ruleOf rule) (procOf a) (f .2) (S .0) (S .1) .1 g in
+        (n1 refl, (n2 refl, (n3 refl, (has-exactly rule a (f .0) (f .1) .1 (k .0), (n5 refl, (n6 refl, (n7 refl, k .1)))))))
+
+-- ---- the handout's value and next state
+
+module _ (rule boards cells : ℕ) (t : Table) (a : Action) (e : answer rule boards cells t a .number ≡ 0) where
+  facts : Accepted rule boards cells (seen boards cells t (a .cell)) a
+  unfolding answer
+  facts = accepted rule boards cells (seen boards cells t (a .cell)) a e
+
+  after-is : cellOf boards cells (tableAfter rule boards cells t a) (a .cell)
+      ≡ stores (cellOf boards cells t (a .cell)) (effect (ruleOf rule) boards (cellOf boards cells t (a .cell)) (procOf a))
+  unfolding answer cellAfter seen
+  after-is = step-here rule boards cells t a ∙ rw e
+
+  -- Read answers the cache's value, every other action 0
+  pub value-is : answer rule boards cells t a .value ≡ Value (asState (cellOf boards cells t (a .cell))) (procOf a)
+  unfolding answer seen
+  value-is =
+      accepted-value rule boards cells (seen boards cells t (a .cell)) a e
+      ∙ next-value (ruleOf rule) boards (cellOf boards cells t (a .cell)) (facts .sounds) (procOf a) (facts .among) (facts .guarded)
+
+  -- main, every board's cache, dirty and lock
+  pub state-is : asState (cellOf boards cells (tableAfter rule boards cells t a) (a .cell)) ≡ Effect (ruleOf rule) (asState (cellOf boards cells t (a .cell))) (procOf a)
+  unfolding seen
+  state-is = rw after-is (next-state (ruleOf rule) boards (cellOf boards cells t (a .cell)) (facts .sounds) (procOf a) (facts .among) (facts .guarded))
+
+  -- and the cell stays sound
+  pub sound-after : sound (ruleOf rule) boards (cellOf boards cells (tableAfter rule boards cells t a) (a .cell)) ≡ true
+  unfolding seen
+  sound-after = rw after-is (sound-kept (ruleOf rule) boards (cellOf boards cells t (a .cell)) (facts .sounds) (procOf a) (facts .among) (facts .guarded))
+
+-- every other cell stays as it was
+pub others-stay : (rule boards cells : ℕ) (t : Table) (a : Action) (d : ℕ) → d ≢ a .cell → cellOf boards cells (tableAfter rule boards cells t a) d ≡ cellOf boards cells t d
+others-stay = step-there
+
+-- ---- no other table has them
+
+same-some : (b d : Bool) (v w : ℕ) → _≡_ {A = Option ℕ} (cond b (some v) none) (cond d (some w) none) → (b ≡ d) × (b ≡ true → v ≡ w)
+same-some true true v w e = (refl, λ h. cc)
+same-some true false v w e = absurd (not-nil v e)
+same-some false true v w e = absurd (not-nil w (sym e))
+same-some false false v w e = (refl, λ h. cc)
+
+-- a cell that stands as document 01 asks is what the handout sees of it
+module _ (r : Rule) (P cells : ℕ) (t u : Table) (c : ℕ) where
+  same-cell : Stands r P (cellOf P cells t c) → Stands r P (cellOf P cells u c) → asState (cellOf P cells t c) ≡ asState (cellOf P cells u c) → cellOf P cells t c ≡ cellOf P cells u c
+  unfolding asState
+  same-cell S U e = fun-ext (λ s. fun-ext (λ k. go s k))
+    where
+      x : Cell
+      x = cellOf P cells t c
+
+      y : Cell
+      y = cellOf P cells u c
+
+      cache : (q : ℕ) → (hasBoard (liveMask x) q ≡ hasBoard (liveMask y) q) × (hasBoard (liveMask x) q ≡ true → copyAt x q ≡ copyAt y q)
+      cache q = same-some (hasBoard (liveMask x) q) (hasBoard (liveMask y) q) (copyAt x q) (copyAt y q) (ap (λ (h : State). h .c q) e)
+
+      beyond : (s : Slice) (k : ℕ) → width P s ≤ k → x s k ≡ y s k
+      beyond s k l = nothing-above (cellByCell P) P cells t c s k l ∙ sym (nothing-above (cellByCell P) P cells u c s k l)
+
+      copied : (q : ℕ) → Dec (q < P) → (b : Bool) → hasBoard (liveMask x) q ≡ b → copyAt x q ≡ copyAt y q
+      copied q (yes l) true h = cache q .1 h
+      copied q (yes l) false h = S .notLiveHolds0 q l h ∙ sym (U .notLiveHolds0 q l (sym (cache q .0) ∙ h))
+      copied q (no n) b h = beyond copies q (unfold width in omega arith)
+
+      go : (s : Slice) (k : ℕ) → x s k ≡ y s k
+      go main zero = ap (λ (h : State). h .m) e
+      go main (suc k) = beyond main (suc k) (unfold width in omega arith)
+      go copies k = copied k (decLt k P) (hasBoard (liveMask x) k) refl
+      go masks zero = same-mask _ _ (λ q. cache q .0)
+      go masks (suc zero) = same-mask _ _ (λ q. ap (λ (h : State). h .dirty q) e)
+      go masks (suc (suc zero)) = same-mask _ _ (λ q. ap (λ (h : State). h .lock q) e)
+      go masks (suc (suc (suc k))) = beyond masks (suc (suc (suc k))) (unfold width in omega arith)
+
+-- a table of good sizes, with the handout's next state at the cell, where it stands as document 01 asks, and every other cell as it was, is the
+-- table after the action
+pub only-next : (rule boards cells : ℕ) (t : Table) (a : Action) → answer rule boards cells t a .number ≡ 0 →
+    (u : Table) → sizesGood boards cells u ≡ true → Stands (ruleOf rule) boards (cellOf boards cells u (a .cell)) →
+    asState (cellOf boards cells u (a .cell)) ≡ Effect (ruleOf rule) (asState (cellOf boards cells t (a .cell))) (procOf a) →
+    ((d : ℕ) → d ≢ a .cell → cellOf boards cells u d ≡ cellOf boards cells t d) →
+    u ≡ tableAfter rule boards cells t a
+unfolding seen
+only-next rule boards cells t a e u z U h others =
+    same-table (cellByCell boards) boards cells (by-cell boards cells) u next (sizes-of boards cells u z)
+    (sizes-of boards cells next (step-sizes rule boards cells t a ∙ facts rule boards cells t a e .sizes)) (λ c. go c (ℕ-discrete c (a .cell)))
+  where
+    next : Table
+    next = tableAfter rule boards cells t a
+
+    go : (c : ℕ) → Dec (c ≡ a .cell) → cellOf boards cells u c ≡ cellOf boards cells next c
+    go c (yes q) =
+        rw q (same-cell (ruleOf rule) boards cells u next (a .cell) U (sound-exactly (ruleOf rule) boards _ .0 (sound-after rule boards cells t a e) .0) (h ∙ sym (state-is rule boards cells t a e)))
+    go c (no n) = others c n ∙ sym (others-stay rule boards cells t a c n)

@@ -1,0 +1,171 @@
+-- Demand 3, reads: from a fresh table, under a coherent rule kept for any list of actions, refused ones included, every accepted Read answers
+-- the latest accepted write to its cell, or the starting value; the log is a run of the handout's CoherentMemory. Assumes nothing.
+use mathlib.Core.Path.{_≡_, refl, sym, ap, _∙_}
+use mathlib.Core.Logic.{_≢_, _⊎_, inl, inr}
+use mathlib.Core.Bool.{Bool, true, false, cond, _&&_, and-true, and-false}
+use mathlib.Core.List.{List, [], _∷_, _++_, map}
+use mathlib.Core.Option.{Option, some, none}
+use Prim.Native.Nat.{ℕ, zero, suc, _+_, _*_, _<_, _≤_}
+use native.Mathlib.Omega.{arith}
+use native.Mathlib.Decide.{ℕ-discrete}
+use lib.Dec.{eqb, ltb}
+use lib.ListN.{length, getD, replicate, List·getD-eq-default}
+use borrow.Author.Tests.{eqb-true, eq-eqb, ne-eqb, ltb-false}
+use Rattle.protocol.specs.declared.Action.{Action}
+use Rattle.protocol.specs.Names.{Rule, Proc, Read, ruleOf, procOf}
+use Rattle.protocol.specs.Slices.{Table, main, copies, masks, width, cellByCell}
+use Rattle.protocol.specs.Cell.{Cell, mainValue, copyAt, liveMask, dirtyMask, lockMask, cellBy, cellOf}
+use Rattle.protocol.specs.Step.{seen, answerTo, answer, tableAfter}
+use Rattle.protocol.specs.Fresh.{freshTable}
+use Rattle.protocol.specs.Runs.{CoherentRule, Line, log, tableAfterAll, isRead, isWrite, acceptedRead, acceptedWrite, latestWrite}
+use Rattle.protocol.specs.Handout.{State, IsCurrent, Current, Value, Effect, orElse}
+use Rattle.protocol.specs.CoherentMemory.{Memory, Event, returned, wrote, SKIP, Allowed, after, Run}
+use Rattle.protocol.specs.AsHandout.{asState, asEvent}
+use Rattle.protocol.proofs.Booleans.{clash, and-left, and-right}
+use Rattle.protocol.proofs.MaskLaws.{has-none}
+use Rattle.protocol.proofs.HandoutLaws.{Among, one-current}
+use Rattle.protocol.proofs.Ladder.{Allows, Coherent, down-to-global, inv3-of}
+use Rattle.protocol.proofs.CurrentKept.{writtenBy, current-kept}
+use Rattle.protocol.proofs.SoundExactly.{sound-exactly}
+use Rattle.protocol.proofs.NumberLaws.{by-rule, proc-read, proc-writes}
+use Rattle.protocol.proofs.StepLaws.{accepted, step-there}
+use Rattle.protocol.proofs.FreshLaws.{fresh-main, fresh-masks}
+use Rattle.protocol.proofs.Demand2.{value-is, state-is}
+use Rattle.protocol.proofs.Demand1.{refused-changes-nothing}
+
+coherent-rule : (rule : ℕ) → CoherentRule rule → Coherent (ruleOf rule)
+unfolding ruleOf
+coherent-rule rule (l, h) = by-rule (λ (r : ℕ). 1 ≤ r → Coherent (ruleOf r)) (λ l. omega arith) (λ l. tt) (λ l. tt) (λ l. tt) (λ l. tt) rule h l
+
+-- the line that a step adds to the log
+abbrev lineOf : (rule boards cells : ℕ) → Table → Action → Line
+lineOf rule boards cells t a = record { action = a; told = answer rule boards cells t a }
+
+-- what the cell k was last written, after one more line
+abbrev pub writtenIn : (k v : ℕ) → Line → ℕ
+writtenIn k v l = cond (acceptedWrite l && eqb (l .action .cell) k) (l .action .value) v
+
+-- ---- one step
+
+module _ (rule boards cells : ℕ) (co : CoherentRule rule) (t : Table) (a : Action) where
+  abbrev before : State
+  before = asState (cellOf boards cells t (a .cell))
+
+  -- accepted, the current value is kept or written
+  current-accepted : (v : ℕ) → answer rule boards cells t a .number ≡ 0 → IsCurrent boards before v →
+      IsCurrent boards (asState (cellOf boards cells (tableAfter rule boards cells t a) (a .cell))) (cond (isWrite (a .code)) (a .value) v)
+  unfolding answer seen
+  current-accepted v e c =
+      let k = accepted rule boards cells (seen boards cells t (a .cell)) a e in
+      let I = sound-exactly (ruleOf rule) boards _ .0 (k .sounds) .1 in
+      let co′ = coherent-rule rule co in
+      rw (state-is rule boards cells t a e, ← proc-writes a (k .coded) v)
+      (current-kept boards before v (ruleOf rule) (inv3-of boards before (ruleOf rule) co′ I) (procOf a) (k .among) (down-to-global boards before (ruleOf rule) co′ I (procOf a) (k .among) (k .guarded)) c)
+
+  current-here : (v : ℕ) → IsCurrent boards before v →
+      IsCurrent boards (asState (cellOf boards cells (tableAfter rule boards cells t a) (a .cell))) (writtenIn (a .cell) v (lineOf rule boards cells t a))
+  unfolding acceptedWrite
+  current-here v c = go (ℕ-discrete (answer rule boards cells t a .number) 0)
+    where
+      go : Dec (answer rule boards cells t a .number ≡ 0) →
+          IsCurrent boards (asState (cellOf boards cells (tableAfter rule boards cells t a) (a .cell))) (writtenIn (a .cell) v (lineOf rule boards cells t a))
+      go (yes e) = rw (eq-eqb (answer rule boards cells t a .number) 0 e, eq-eqb (a .cell) (a .cell) refl, and-true (isWrite (a .code))) (current-accepted v e c)
+      go (no n) = rw (refused-changes-nothing rule boards cells t a n .0, ne-eqb (answer rule boards cells t a .number) 0 n) c
+
+  current-step : (m : Memory) → ((k : ℕ) → IsCurrent boards (asState (cellOf boards cells t k)) (m k)) → (k : ℕ) →
+      IsCurrent boards (asState (cellOf boards cells (tableAfter rule boards cells t a) k)) (writtenIn k (m k) (lineOf rule boards cells t a))
+  current-step m f k = go (ℕ-discrete k (a .cell))
+    where
+      go : Dec (k ≡ a .cell) → IsCurrent boards (asState (cellOf boards cells (tableAfter rule boards cells t a) k)) (writtenIn k (m k) (lineOf rule boards cells t a))
+      go (yes q) = rw q (current-here (m (a .cell)) (f (a .cell)))
+      go (no n) = rw (step-there rule boards cells t a k n, ne-eqb (a .cell) k (λ e. n (sym e)), and-false (acceptedWrite (lineOf rule boards cells t a))) (f k)
+
+  -- an accepted Read answers the current value
+  reads-current : (v : ℕ) → a .code ≡ 0 → answer rule boards cells t a .number ≡ 0 → IsCurrent boards before v → answer rule boards cells t a .value ≡ v
+  unfolding answer seen
+  reads-current v z e c =
+      let k = accepted rule boards cells (seen boards cells t (a .cell)) a e in
+      let I = sound-exactly (ruleOf rule) boards _ .0 (k .sounds) .1 in
+      let co′ = coherent-rule rule co in
+      let g : Current boards before (a .board) = rw (proc-read a z) at (down-to-global boards before (ruleOf rule) co′ I (procOf a) (k .among) (k .guarded)) in
+      value-is rule boards cells t a e ∙ rw (proc-read a z, g .1) (one-current boards before (inv3-of boards before (ruleOf rule) co′ I) (g .0) v (g .2) c)
+
+-- ---- lines as events
+
+-- a Read is no Write
+read-only : (l : Line) → acceptedRead l ≡ true → acceptedWrite l ≡ false
+unfolding acceptedRead acceptedWrite isRead isWrite
+read-only l e = rw (eqb-true (l .action .code) 0 (and-right (eqb (l .told .number) 0) (eqb (l .action .code) 0) e), and-false (eqb (l .told .number) 0))
+
+after-event : (m : Memory) (l : Line) (k : ℕ) → after m (asEvent l) k ≡ writtenIn k (m k) l
+unfolding asEvent
+after-event m l k = go (acceptedRead l) refl (acceptedWrite l) refl
+  where
+    go : (r : Bool) → acceptedRead l ≡ r → (w : Bool) → acceptedWrite l ≡ w →
+        after m (cond r (returned (l .action .cell) (l .told .value)) (cond w (wrote (l .action .cell) (l .action .value)) SKIP)) k
+        ≡ cond (w && eqb (l .action .cell) k) (l .action .value) (m k)
+    go true e true d = absurd (clash d (read-only l e))
+    go true e false d = refl
+    go false e true d = refl
+    go false e false d = refl
+
+-- in a run of CoherentMemory, a Read returns the latest write before it
+read-in-run : (m : Memory) (before rest : List Line) (l : Line) → Run m (map asEvent (before ++ (l ∷ rest))) → acceptedRead l ≡ true →
+    l .told .value ≡ latestWrite (l .action .cell) (m (l .action .cell)) before
+unfolding latestWrite asEvent
+read-in-run m [] rest l r e = rw e at (r .0)
+read-in-run m (b ∷ before) rest l r e = read-in-run (after m (asEvent b)) before rest l (r .1) e ∙ ap (λ (v : ℕ). latestWrite (l .action .cell) v before) (after-event m b (l .action .cell))
+
+-- ---- a run
+
+module _ (rule boards cells : ℕ) (co : CoherentRule rule) where
+  current-run : (t : Table) (actions : List Action) (m : Memory) → ((k : ℕ) → IsCurrent boards (asState (cellOf boards cells t k)) (m k)) → (k : ℕ) →
+      IsCurrent boards (asState (cellOf boards cells (tableAfterAll rule boards cells t actions) k)) (latestWrite k (m k) (log rule boards cells t actions))
+  unfolding tableAfterAll log latestWrite
+  current-run t [] m f k = f k
+  current-run t (a ∷ rest) m f k =
+      current-run (tableAfter rule boards cells t a) rest (λ j. writtenIn j (m j) (lineOf rule boards cells t a)) (current-step rule boards cells co t a m f) k
+
+  allowed-line : (t : Table) (a : Action) (m : Memory) → ((k : ℕ) → IsCurrent boards (asState (cellOf boards cells t k)) (m k)) → Allowed m (asEvent (lineOf rule boards cells t a))
+  unfolding asEvent
+  allowed-line t a m f = go (acceptedRead l) refl (acceptedWrite l)
+    where
+      l : Line
+      l = lineOf rule boards cells t a
+
+      go : (r : Bool) → acceptedRead l ≡ r → (w : Bool) → Allowed m (cond r (returned (a .cell) (l .told .value)) (cond w (wrote (a .cell) (a .value)) SKIP))
+      go true e w = unfold acceptedRead isRead in
+          reads-current rule boards cells co t a (m (a .cell)) (eqb-true _ _ (and-right (eqb (l .told .number) 0) (eqb (a .code) 0) e)) (eqb-true _ _ (and-left (eqb (l .told .number) 0) (eqb (a .code) 0) e)) (f (a .cell))
+      go false e true = tt
+      go false e false = tt
+
+  coherent-run : (t : Table) (actions : List Action) (m : Memory) → ((k : ℕ) → IsCurrent boards (asState (cellOf boards cells t k)) (m k)) →
+      Run m (map asEvent (log rule boards cells t actions))
+  unfolding log
+  coherent-run t [] m f = tt
+  coherent-run t (a ∷ rest) m f = (
+    allowed-line t a m f,
+    coherent-run (tableAfter rule boards cells t a) rest (after m (asEvent (lineOf rule boards cells t a)))
+        (λ k. rw (after-event m (lineOf rule boards cells t a) k) (current-step rule boards cells co t a m f k)),
+  )
+
+fresh-current : (boards : ℕ) (starting : List ℕ) (k : ℕ) → IsCurrent boards (asState (cellOf boards (length starting) (freshTable boards starting) k)) (getD starting k 0)
+unfolding asState
+fresh-current boards starting k = inl ((λ p l. rw (fresh-masks boards starting k 1) (has-none p)), sym (fresh-main boards starting k))
+
+-- ---- the promises
+
+module _ (rule boards : ℕ) (starting : List ℕ) (co : CoherentRule rule) (actions : List Action) where
+  -- the log of a run from a fresh table is a run of the handout's CoherentMemory, started at the starting values
+  pub log-is-coherent : Run (λ k. getD starting k 0) (map asEvent (log rule boards (length starting) (freshTable boards starting) actions))
+  log-is-coherent = coherent-run rule boards (length starting) co (freshTable boards starting) actions _ (fresh-current boards starting)
+
+  -- wherever the log is cut before an accepted Read, its value is the latest accepted write that the lines before it tell of
+  pub reads-latest : (before rest : List Line) (l : Line) → log rule boards (length starting) (freshTable boards starting) actions ≡ before ++ (l ∷ rest) → acceptedRead l ≡ true →
+      l .told .value ≡ latestWrite (l .action .cell) (getD starting (l .action .cell) 0) before
+  reads-latest before rest l cut e = read-in-run (λ (k : ℕ). getD starting k 0) before rest l (rw cut at log-is-coherent) e
+
+  -- the current value of each cell at the end is the latest accepted write
+  pub latest-is-current : (k : ℕ) → IsCurrent boards (asState (cellOf boards (length starting) (tableAfterAll rule boards (length starting) (freshTable boards starting) actions) k))
+      (latestWrite k (getD starting k 0) (log rule boards (length starting) (freshTable boards starting) actions))
+  latest-is-current k = current-run rule boards (length starting) co (freshTable boards starting) actions (λ (j : ℕ). getD starting j 0) (fresh-current boards starting) k

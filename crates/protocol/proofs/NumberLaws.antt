@@ -1,0 +1,94 @@
+-- The numbers of rules and actions, case by case: what the conditions on raw numbers say of the named rule and action. Assumes nothing.
+use mathlib.Core.Path.{_≡_, refl, sym, ap, _∙_}
+use mathlib.Core.Logic.{_≢_, _↔_}
+use mathlib.Core.Bool.{Bool, true, false, cond, not, _&&_, _||_, true≢false}
+use Prim.Native.Nat.{ℕ, zero, suc, _<_, _≤_}
+use native.Mathlib.Omega.{arith}
+use lib.Dec.{eqb, ltb, leb}
+use borrow.Author.Tests.{leb-false, ltb-false}
+use Rattle.protocol.specs.declared.Action.{Action}
+use Rattle.protocol.specs.Names.{Rule, Proc, Read, Barrier, Acquire, Release, ruleOf, procOf}
+use Rattle.protocol.specs.Cell.{Cell}
+use Rattle.protocol.specs.Effects.{valueOf}
+use Rattle.protocol.specs.Step.{malformed, missing, offBoard}
+use Rattle.protocol.specs.Runs.{isWrite}
+use Rattle.protocol.proofs.CurrentKept.{writtenBy}
+use Rattle.protocol.proofs.Booleans.{clash, or-left, or-right}
+use Rattle.protocol.proofs.HandoutLaws.{Among}
+use Rattle.protocol.proofs.GuardExactly.{Has}
+
+pub by-rule {ℓ} : (F : ℕ → Type ℓ) → F 0 → F 1 → F 2 → F 3 → F 4 → (rule : ℕ) → rule ≤ 4 → F rule
+by-rule F f0 f1 f2 f3 f4 zero h = f0
+by-rule F f0 f1 f2 f3 f4 (suc zero) h = f1
+by-rule F f0 f1 f2 f3 f4 (suc (suc zero)) h = f2
+by-rule F f0 f1 f2 f3 f4 (suc (suc (suc zero))) h = f3
+by-rule F f0 f1 f2 f3 f4 (suc (suc (suc (suc zero)))) h = f4
+by-rule F f0 f1 f2 f3 f4 (suc (suc (suc (suc (suc n))))) h = absurd (omega arith)
+
+pub by-code {ℓ} : (F : ℕ → Type ℓ) → F 0 → F 1 → F 2 → F 3 → F 4 → F 5 → F 6 → F 7 → F 8 → (code : ℕ) → code ≤ 8 → F code
+by-code F f0 f1 f2 f3 f4 f5 f6 f7 f8 zero h = f0
+by-code F f0 f1 f2 f3 f4 f5 f6 f7 f8 (suc zero) h = f1
+by-code F f0 f1 f2 f3 f4 f5 f6 f7 f8 (suc (suc zero)) h = f2
+by-code F f0 f1 f2 f3 f4 f5 f6 f7 f8 (suc (suc (suc zero))) h = f3
+by-code F f0 f1 f2 f3 f4 f5 f6 f7 f8 (suc (suc (suc (suc n)))) h = by-rule (λ (k : ℕ). F (suc (suc (suc (suc k))))) f4 f5 f6 f7 f8 n (omega arith)
+
+-- an action that is well formed has a code up to 8
+pub code-fits : (a : Action) → malformed a ≡ false → a .code ≤ 8
+unfolding malformed
+code-fits a e =
+    ltb-false 8 (a .code)
+    (or-left (ltb 8 (a .code)) (not (eqb (a .code) 5) && not (eqb (a .to) 0))
+    (or-left (ltb 8 (a .code) || not (eqb (a .code) 5) && not (eqb (a .to) 0)) (not (eqb (a .code) 1) && not (eqb (a .value) 0)) e))
+
+-- the same action under another code
+abbrev coded : Action → ℕ → Action
+coded a code = record { code = code; board = a .board; to = a .to; cell = a .cell; value = a .value }
+
+-- the boards that it names are below P
+pub named-among : (boards : ℕ) (a : Action) → a .code ≤ 8 → offBoard boards a ≡ false → Among boards (procOf a)
+unfolding offBoard procOf
+named-among boards a =
+    by-code (λ (k : ℕ). offBoard boards (coded a k) ≡ false → Among boards (procOf (coded a k))) board board board board board both board board board (a .code)
+  where
+    board : (leb boards (a .board) || false) ≡ false → a .board < boards
+    board e = leb-false boards (a .board) (or-left (leb boards (a .board)) false e)
+
+    both : (leb boards (a .board) || leb boards (a .to)) ≡ false → (a .board < boards) × (a .to < boards)
+    both e = (leb-false boards (a .board) (or-left (leb boards (a .board)) (leb boards (a .to)) e), leb-false boards (a .to) (or-right (leb boards (a .board)) (leb boards (a .to)) e))
+
+-- the rule has the action
+pub has-exactly : (rule : ℕ) (a : Action) → rule ≤ 4 → a .code ≤ 8 → (missing rule (a .code) ≡ false) ↔ Has (ruleOf rule) (procOf a)
+unfolding missing ruleOf procOf
+has-exactly rule a h =
+    by-code (λ (k : ℕ). (missing rule k ≡ false) ↔ Has (ruleOf rule) (procOf (coded a k))) there there barrier there there there there acquire release (a .code)
+  where
+    there : (false ≡ false) ↔ Unit {0}
+    there = ((λ e. tt), λ u. refl)
+
+    gone : (true ≡ false) ↔ ⊥
+    gone = ((λ e. true≢false e), λ b. absurd b)
+
+    barrier : (missing rule 2 ≡ false) ↔ Has (ruleOf rule) (Barrier (a .board))
+    barrier = by-rule (λ (r : ℕ). (missing r 2 ≡ false) ↔ Has (ruleOf r) (Barrier (a .board))) there gone gone gone gone rule h
+
+    acquire : (missing rule 7 ≡ false) ↔ Has (ruleOf rule) (Acquire (a .board))
+    acquire = by-rule (λ (r : ℕ). (missing r 7 ≡ false) ↔ Has (ruleOf r) (Acquire (a .board))) gone gone gone there there rule h
+
+    release : (missing rule 8 ≡ false) ↔ Has (ruleOf rule) (Release (a .board))
+    release = by-rule (λ (r : ℕ). (missing r 8 ≡ false) ↔ Has (ruleOf r) (Release (a .board))) gone gone gone there there rule h
+
+-- only Read, code 0, answers a value
+pub silent : (x : Cell) (a : Action) → a .code ≤ 8 → a .code ≢ 0 → valueOf x (procOf a) ≡ 0
+unfolding procOf valueOf
+silent x a =
+    by-code (λ (k : ℕ). k ≢ 0 → valueOf x (procOf (coded a k)) ≡ 0) (λ n. absurd (n refl)) (λ n. refl) (λ n. refl) (λ n. refl) (λ n. refl) (λ n. refl) (λ n. refl) (λ n. refl) (λ n. refl) (a .code)
+
+pub proc-read : (a : Action) → a .code ≡ 0 → procOf a ≡ Read (a .board)
+unfolding procOf
+proc-read a e = rw e
+
+-- only Write, code 1, writes a value
+pub proc-writes : (a : Action) → a .code ≤ 8 → (v : ℕ) → writtenBy (procOf a) v ≡ cond (isWrite (a .code)) (a .value) v
+unfolding procOf writtenBy isWrite
+proc-writes a =
+    by-code (λ (k : ℕ). (v : ℕ) → writtenBy (procOf (coded a k)) v ≡ cond (isWrite k) (a .value) v) (λ v. refl) (λ v. refl) (λ v. refl) (λ v. refl) (λ v. refl) (λ v. refl) (λ v. refl) (λ v. refl) (λ v. refl) (a .code)

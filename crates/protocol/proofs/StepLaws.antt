@@ -1,0 +1,145 @@
+-- What an accepted action rests on, and how a step looks from one cell. Assumes nothing.
+use mathlib.Core.Path.{_≡_, refl, sym, ap, _∙_}
+use mathlib.Core.Logic.{_≢_, _↔_}
+use mathlib.Core.Bool.{Bool, true, false, cond, not}
+use mathlib.Core.List.{List, [], _∷_, map}
+use Prim.Native.Nat.{ℕ, _<_, _≤_}
+use native.Mathlib.Omega.{arith}
+use lib.Dec.{eqb, ltb, leb}
+use lib.ListN.{length}
+use borrow.Author.Tests.{eqb-true, eq-eqb, ltb-false, leb-false, not-false}
+use Rattle.protocol.specs.declared.Action.{Action}
+use Rattle.protocol.specs.declared.Answer.{Answer}
+use Rattle.protocol.specs.Names.{Rule, Proc, ruleOf, procOf}
+use Rattle.protocol.specs.Slices.{Slice, Table, sizesGood, cellByCell}
+use Rattle.protocol.specs.Cell.{Cell, cellOf}
+use Rattle.protocol.specs.Soundness.{sound}
+use Rattle.protocol.specs.First.{Refusal, when, first, NoneHolds}
+use Rattle.protocol.specs.Guards.{Test, notLive, isDirty, notDirty, dirtyElsewhere, onlyDirtyElsewhere, anotherCopy, lockedByAnother, lockHeld, lockNotHeld, notCurrent, stillLive}
+use Rattle.protocol.specs.Guards.{numberOf, stands, tests, guard}
+use Rattle.protocol.specs.Effects.{effect, valueOf, storesIn}
+use Rattle.protocol.specs.Step.{malformed, missing, offBoard, Seen, seen, refusals, answerTo, answer, tableAfter}
+use Rattle.protocol.specs.Handout.{Guard}
+use Rattle.protocol.specs.AsHandout.{asState, inHandout, NoOtherHolds}
+use Rattle.protocol.proofs.FirstLaws.{Refuse, first-accepted, first-none}
+use Rattle.protocol.proofs.HandoutLaws.{Among}
+use Rattle.protocol.proofs.PlaceLaws.{by-cell}
+use Rattle.protocol.proofs.CellLaws.{stores, Sized, sizes-of, same-sizes, length-stores, stores-here, stores-there}
+use Rattle.protocol.proofs.SoundExactly.{sound-exactly}
+use Rattle.protocol.proofs.GuardExactly.{Has, guard-exactly}
+use Rattle.protocol.proofs.EffectExactly.{effect-fits}
+use Rattle.protocol.proofs.NumberLaws.{code-fits, named-among, has-exactly}
+
+-- ---- the numbers of the refusals
+
+pub guard-number : (test : Test) → (8 ≤ numberOf test) × (numberOf test ≤ 16)
+unfolding numberOf
+guard-number (notLive p) = omega arith
+guard-number (isDirty p) = omega arith
+guard-number (notDirty p) = omega arith
+guard-number (dirtyElsewhere p) = omega arith
+guard-number (onlyDirtyElsewhere p) = omega arith
+guard-number (anotherCopy p) = omega arith
+guard-number (lockedByAnother p) = omega arith
+guard-number lockHeld = omega arith
+guard-number (lockNotHeld p) = omega arith
+guard-number (notCurrent p) = omega arith
+guard-number (stillLive p) = omega arith
+
+guard-refuses : (x : Cell) (ts : List Test) → Refuse (map (λ test. when (numberOf test) (stands x test)) ts)
+guard-refuses x [] = tt
+guard-refuses x (t ∷ ts) = let n : numberOf t ≢ 0 = omega (arith, guard-number t) in (n, refl, guard-refuses x ts)
+
+pub all-refuse : (rule boards cells : ℕ) (s : Seen) (a : Action) → Refuse (refusals rule boards cells s a)
+unfolding refusals guard
+all-refuse rule boards cells s a =
+    (omega arith, refl, (omega arith, refl, (omega arith, refl, (omega arith, refl, (omega arith, refl, (omega arith, refl, (omega arith, refl, guard-refuses (s .cell) (tests (ruleOf rule) (procOf a)))))))))
+
+-- ---- what an accepted action rests on
+
+pub record Accepted (rule boards cells : ℕ) (s : Seen) (a : Action) : Type 0 where
+  pub sizes : s .sizes ≡ true
+  pub ruled : rule ≤ 4
+  pub coded : a .code ≤ 8
+  pub among : Among boards (procOf a)
+  pub inside : a .cell < cells
+  pub sounds : sound (ruleOf rule) boards (s .cell) ≡ true
+  pub guarded : Guard boards (asState (s .cell)) (ruleOf rule) (procOf a)
+
+module _ (rule boards cells : ℕ) (s : Seen) (a : Action) where
+  pub none-accepts : NoneHolds (refusals rule boards cells s a) → Accepted rule boards cells s a
+  unfolding refusals
+  none-accepts (n1, (n2, (n3, (n4, (n5, (n6, (n7, g))))))) =
+      let r = ltb-false 4 rule n2 in
+      let c = code-fits a n3 in
+      let l = named-among boards a c n5 in
+      let k = not-false _ n7 in
+      let S = sound-exactly (ruleOf rule) boards (s .cell) .0 k in
+      record {
+        sizes = not-false _ n1;
+        ruled = r;
+        coded = c;
+        among = l;
+        inside = leb-false cells (a .cell) n6;
+        sounds = k;
+        guarded = guard-exactly boards (s .cell) (ruleOf rule) (procOf a) l (S .0) (S .1) .0 (has-exactly rule a r c .0 n4, g);
+      }
+
+  -- what holds where no refusal does that the handout does not know of
+  pub formed : NoOtherHolds (refusals rule boards cells s a) → (rule ≤ 4) × (a .code ≤ 8) × Among boards (procOf a) × (sound (ruleOf rule) boards (s .cell) ≡ true)
+  unfolding refusals inHandout
+  formed (n1, (n2, (n3, (n4, (n5, (n6, (n7, g))))))) =
+      let c = code-fits a (n3 refl) in
+      (ltb-false 4 rule (n2 refl), c, named-among boards a c (n5 refl), not-false _ (n7 refl))
+
+  pub accepted : answerTo rule boards cells s a .number ≡ 0 → Accepted rule boards cells s a
+  unfolding answerTo
+  accepted e = none-accepts (first-accepted _ refl (refusals rule boards cells s a) (all-refuse rule boards cells s a) .0 e)
+
+  pub accepted-value : answerTo rule boards cells s a .number ≡ 0 → answerTo rule boards cells s a .value ≡ valueOf (s .cell) (procOf a)
+  unfolding answerTo
+  accepted-value e =
+      ap (λ (o : Answer). o .value) (first-none (refusals rule boards cells s a) _ (first-accepted _ refl (refusals rule boards cells s a) (all-refuse rule boards cells s a) .0 e))
+
+  -- the cell after the action, seen from the cell alone
+  unfoldable pub cellAfter : Cell
+  cellAfter = cond (eqb (answerTo rule boards cells s a .number) 0) (stores (s .cell) (effect (ruleOf rule) boards (s .cell) (procOf a))) (s .cell)
+
+-- ---- a step, seen from a cell
+
+module _ (rule boards cells : ℕ) (t : Table) (a : Action) where
+  pub step-sizes : sizesGood boards cells (tableAfter rule boards cells t a) ≡ sizesGood boards cells t
+  unfolding tableAfter
+  step-sizes = go (eqb (answer rule boards cells t a .number) 0)
+    where
+      go : (b : Bool) → sizesGood boards cells (cond b (storesIn boards (a .cell) t (effect (ruleOf rule) boards (cellOf boards cells t (a .cell)) (procOf a))) t) ≡ sizesGood boards cells t
+      go true = same-sizes boards cells t _ (length-stores (cellByCell boards) (a .cell) t _)
+      go false = refl
+
+  pub step-here : cellOf boards cells (tableAfter rule boards cells t a) (a .cell) ≡ cellAfter rule boards cells (seen boards cells t (a .cell)) a
+  unfolding tableAfter answer cellAfter seen
+  step-here = go (eqb (answer rule boards cells t a .number) 0) refl
+    where
+      x : Cell
+      x = cellOf boards cells t (a .cell)
+
+      go : (b : Bool) → eqb (answer rule boards cells t a .number) 0 ≡ b →
+          cellOf boards cells (cond b (storesIn boards (a .cell) t (effect (ruleOf rule) boards x (procOf a))) t) (a .cell) ≡ cond b (stores x (effect (ruleOf rule) boards x (procOf a))) x
+      go true e =
+          let k = accepted rule boards cells (seen boards cells t (a .cell)) a (eqb-true _ _ e) in
+          stores-here (cellByCell boards) boards cells (by-cell boards cells) (a .cell) (k .inside) t _ (sizes-of boards cells t (k .sizes)) (effect-fits (ruleOf rule) boards x (procOf a) (k .among))
+      go false e = refl
+
+  pub step-there : (d : ℕ) → d ≢ a .cell → cellOf boards cells (tableAfter rule boards cells t a) d ≡ cellOf boards cells t d
+  unfolding tableAfter answer seen
+  step-there d n = go (eqb (answer rule boards cells t a .number) 0) refl
+    where
+      x : Cell
+      x = cellOf boards cells t (a .cell)
+
+      go : (b : Bool) → eqb (answer rule boards cells t a .number) 0 ≡ b →
+          cellOf boards cells (cond b (storesIn boards (a .cell) t (effect (ruleOf rule) boards x (procOf a))) t) d ≡ cellOf boards cells t d
+      go true e =
+          let k = accepted rule boards cells (seen boards cells t (a .cell)) a (eqb-true _ _ e) in
+          stores-there (cellByCell boards) boards cells (by-cell boards cells) (a .cell) (k .inside) t _ d (sizes-of boards cells t (k .sizes)) (effect-fits (ruleOf rule) boards x (procOf a) (k .among)) n
+      go false e = refl
