@@ -14,7 +14,7 @@ use borrow.Author.Tests.{eq-eqb, ne-eqb, eqb-true, ltb-true, lt-ltb, le-ltb}
 use Rattle.protocol.specs.Slices.{Slice, main, copies, masks, slices, Table, Places, width, every, sizesGood}
 use Rattle.protocol.specs.Cell.{Cell, cellBy}
 use Rattle.protocol.specs.Effects.{Store, put, sliceNumber, storeBy, storesBy}
-use Rattle.protocol.proofs.Booleans.{and-left, and-right, and-both, every-at}
+use Rattle.protocol.proofs.Booleans.{and-left, and-right, every-at}
 use Rattle.protocol.proofs.PlaceLaws.{Proper}
 
 -- ---- stores read on a cell

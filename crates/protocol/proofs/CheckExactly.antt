@@ -1,5 +1,5 @@
 -- Demand 1 for the whole-table check: its refusals, and its finding, "sound, or the lowest-numbered cell that is not". Assumes nothing.
-use mathlib.Core.Path.{_≡_, refl, sym, ap, _∙_}
+use mathlib.Core.Path.{_≡_, refl, sym, ap}
 use mathlib.Core.Logic.{_≢_, _↔_}
 use mathlib.Core.Bool.{Bool, true, false, cond, not}
 use mathlib.Core.Option.{Option, some, none}

@@ -1,33 +1,21 @@
 -- Demand 1 for an action: each refusal is given exactly when its condition is the first that holds, changes no lent memory and has the
 -- value 0. CheckExactly and FreshExactly say the same of the other two calls. Assumes nothing.
-use mathlib.Core.Path.{_≡_, refl, sym, ap, _∙_}
-use mathlib.Core.Logic.{_≢_, _⊎_, inl, inr, _↔_}
-use mathlib.Core.Bool.{Bool, true, false, cond, not, _&&_}
-use mathlib.Core.List.{List, [], _∷_, map}
-use mathlib.Core.Option.{Option, some, none}
-use Prim.Native.Nat.{ℕ, zero, suc, _+_, _*_, _<_, _≤_}
-use native.Mathlib.Omega.{arith}
+use mathlib.Core.Path.{_≡_, refl, _∙_}
+use mathlib.Core.Logic.{_≢_, _↔_}
+use mathlib.Core.List.{_∷_, map}
+use Prim.Native.Nat.{ℕ}
 use native.Mathlib.Decide.{ℕ-discrete}
-use lib.Dec.{eqb, leb}
-use lib.ListN.{length}
-use borrow.Author.Tests.{eqb-true, eq-eqb, ne-eqb, leb-true, le-leb, not-true, not-false}
+use borrow.Author.Tests.{ne-eqb}
 use Rattle.protocol.specs.declared.Action.{Action}
 use Rattle.protocol.specs.Names.{ruleOf, procOf}
-use Rattle.protocol.specs.Slices.{Slice, slices, Table, width, every, sizesGood}
+use Rattle.protocol.specs.Slices.{Table}
 use Rattle.protocol.specs.Cell.{cellOf}
-use Rattle.protocol.specs.Soundness.{sound}
-use Rattle.protocol.specs.First.{Refusal, first, FirstIs, NoneHolds}
-use Rattle.protocol.specs.Guards.{guard, tests, numberOf, stands, Test}
-use Rattle.protocol.specs.Effects.{valueOf}
+use Rattle.protocol.specs.First.{Refusal, FirstIs, NoneHolds}
+use Rattle.protocol.specs.Guards.{guard}
 use Rattle.protocol.specs.Step.{Seen, seen, refusals, answerTo, answer, tableAfter}
-use Rattle.protocol.specs.Check.{checkRefusals, checkAnswer, lowestFrom, lowestUnsound}
-use Rattle.protocol.specs.Fresh.{freshTable, freshRefusals, freshAnswer, freshAfter}
-use Rattle.protocol.proofs.Booleans.{clash, and-left, and-right, and-both, every-of}
 use Rattle.protocol.proofs.FirstLaws.{first-refused, first-accepted, first-value}
-use Rattle.protocol.proofs.CellLaws.{sizes-of}
-use Rattle.protocol.proofs.HandoutLaws.{not-nil}
 use Rattle.protocol.proofs.NumberLaws.{silent}
-use Rattle.protocol.proofs.StepLaws.{all-refuse, Accepted, accepted, accepted-value, guard-number}
+use Rattle.protocol.proofs.StepLaws.{all-refuse, accepted, accepted-value}
 
 -- ---- any rule number, any sizes, any table, any action
 
@@ -65,41 +53,3 @@ module _ (rule boards cells : ℕ) (t : Table) (a : Action) where
   pub in-order : (s : Seen) → map (λ (r : Refusal). r .answer .number) (refusals rule boards cells s a) ≡ 1 ∷ 2 ∷ 3 ∷ 4 ∷ 5 ∷ 6 ∷ 7 ∷ map (λ (r : Refusal). r .answer .number) (guard (s .cell) (ruleOf rule) (procOf a))
   unfolding refusals
   in-order s = refl
-
--- "P or N out of range, or a table .. slice of wrong length", each bound by itself
-pub sizes-exactly : (boards cells : ℕ) (t : Table) →
-    (sizesGood boards cells t ≡ true) ↔ ((1 ≤ boards) × (boards ≤ 16) × (1 ≤ cells) × (cells ≤ 512) × ((s : Slice) → length (t s) ≡ cells * width boards s))
-unfolding sizesGood
-sizes-exactly boards cells t = (
-  (λ e.
-      let f = and-left (b && c) l e in
-      let g = and-left b c f in
-      let h = and-right b c f in
-      (leb-true _ _ (and-left b1 b2 g), leb-true _ _ (and-right b1 b2 g), leb-true _ _ (and-left c1 c2 h), leb-true _ _ (and-right c1 c2 h), sizes-of boards cells t e)),
-  λ f. and-both (b && c) l (and-both b c (and-both b1 b2 (le-leb _ _ (f .0)) (le-leb _ _ (f .1))) (and-both c1 c2 (le-leb _ _ (f .2)) (le-leb _ _ (f .3))))
-      (every-of slices test (λ s. eq-eqb _ _ (f .4 s))),
-)
-  where
-    b1 : Bool
-    b1 = leb 1 boards
-
-    b2 : Bool
-    b2 = leb boards 16
-
-    b : Bool
-    b = b1 && b2
-
-    c1 : Bool
-    c1 = leb 1 cells
-
-    c2 : Bool
-    c2 = leb cells 512
-
-    c : Bool
-    c = c1 && c2
-
-    test : Slice → Bool
-    test s = eqb (length (t s)) (cells * width boards s)
-
-    l : Bool
-    l = every slices test

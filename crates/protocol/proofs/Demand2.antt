@@ -2,31 +2,24 @@
 -- it has the handout's value and next state, every other cell stays, and no other table has these. Assumes nothing.
 use mathlib.Core.Path.{_≡_, refl, sym, ap, _∙_, fun-ext}
 use mathlib.Core.Logic.{_≢_, _↔_}
-use mathlib.Core.Bool.{Bool, true, false, cond, not}
-use mathlib.Core.List.{List, [], _∷_}
+use mathlib.Core.Bool.{Bool, true, false, cond}
 use mathlib.Core.Option.{Option, some, none}
 use Prim.Native.Nat.{ℕ, zero, suc, _<_, _≤_}
 use native.Mathlib.Omega.{arith}
 use native.Mathlib.Decide.{ℕ-discrete, decLt}
-use lib.Dec.{eqb}
-use borrow.Author.Tests.{eq-eqb, not-false, ltb-false}
 use Rattle.protocol.specs.declared.Action.{Action}
-use Rattle.protocol.specs.declared.Answer.{Answer}
 use Rattle.protocol.specs.Names.{Rule, ruleOf, procOf}
-use Rattle.protocol.specs.Names.{Proc, Drop, Release}
 use Rattle.protocol.specs.Masks.{hasBoard}
 use Rattle.protocol.specs.Slices.{Slice, main, copies, masks, Table, sizesGood, cellByCell, width}
-use Rattle.protocol.specs.Cell.{Cell, mainValue, copyAt, liveMask, dirtyMask, lockMask, cellOf}
+use Rattle.protocol.specs.Cell.{Cell, copyAt, liveMask, cellOf}
 use Rattle.protocol.specs.Soundness.{sound}
 use Rattle.protocol.specs.First.{NoneHolds}
-use Rattle.protocol.specs.Guards.{guard}
 use Rattle.protocol.specs.Effects.{effect}
-use Rattle.protocol.specs.Step.{seen, refusals, answerTo, answer, tableAfter}
-use Rattle.protocol.specs.Handout.{State, Guard, Effect, Value, setAt}
+use Rattle.protocol.specs.Step.{seen, refusals, answer, tableAfter}
+use Rattle.protocol.specs.Handout.{State, Guard, Effect, Value}
 use Rattle.protocol.specs.AsHandout.{asState, Stands, inHandout, NoOtherHolds}
-use Rattle.protocol.proofs.Booleans.{clash, not-so}
 use Rattle.protocol.proofs.MaskLaws.{same-mask}
-use Rattle.protocol.proofs.HandoutLaws.{not-nil, set-at}
+use Rattle.protocol.proofs.HandoutLaws.{not-nil}
 use Rattle.protocol.proofs.PlaceLaws.{by-cell}
 use Rattle.protocol.proofs.CellLaws.{stores, sizes-of, same-table, nothing-above}
 use Rattle.protocol.proofs.SoundExactly.{sound-exactly}

@@ -2,14 +2,13 @@
 -- each action the same answer and end in the same table. Assumes nothing.
 use mathlib.Core.Path.{_≡_, refl, sym, ap, _∙_}
 use mathlib.Core.Logic.{_≢_}
-use mathlib.Core.Bool.{Bool, true, false, cond, not}
+use mathlib.Core.Bool.{Bool, true, false, cond}
 use mathlib.Core.List.{List, [], _∷_}
 use Prim.Native.Nat.{ℕ}
 use lib.Dec.{eqb}
 use borrow.Author.Tests.{eqb-true, eqb-false}
 use Rattle.protocol.specs.declared.Action.{Action}
 use Rattle.protocol.specs.Slices.{Table, sizesGood, cellByCell}
-use Rattle.protocol.specs.Cell.{Cell, cellOf}
 use Rattle.protocol.specs.First.{first}
 use Rattle.protocol.specs.Step.{Seen, seen, refusals, answerTo, answer, tableAfter}
 use Rattle.protocol.specs.Runs.{Line, log, tableAfterAll, naming}

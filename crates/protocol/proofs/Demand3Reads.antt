@@ -1,31 +1,30 @@
 -- Demand 3, reads: from a fresh table, under a coherent rule kept for any list of actions, refused ones included, every accepted Read answers
 -- the latest accepted write to its cell, or the starting value; the log is a run of the handout's CoherentMemory. Assumes nothing.
 use mathlib.Core.Path.{_≡_, refl, sym, ap, _∙_}
-use mathlib.Core.Logic.{_≢_, _⊎_, inl, inr}
+use mathlib.Core.Logic.{inl}
 use mathlib.Core.Bool.{Bool, true, false, cond, _&&_, and-true, and-false}
 use mathlib.Core.List.{List, [], _∷_, _++_, map}
-use mathlib.Core.Option.{Option, some, none}
-use Prim.Native.Nat.{ℕ, zero, suc, _+_, _*_, _<_, _≤_}
+use Prim.Native.Nat.{ℕ, _≤_}
 use native.Mathlib.Omega.{arith}
 use native.Mathlib.Decide.{ℕ-discrete}
-use lib.Dec.{eqb, ltb}
-use lib.ListN.{length, getD, replicate, List·getD-eq-default}
-use borrow.Author.Tests.{eqb-true, eq-eqb, ne-eqb, ltb-false}
+use lib.Dec.{eqb}
+use lib.ListN.{length, getD}
+use borrow.Author.Tests.{eqb-true, eq-eqb, ne-eqb}
 use Rattle.protocol.specs.declared.Action.{Action}
-use Rattle.protocol.specs.Names.{Rule, Proc, Read, ruleOf, procOf}
-use Rattle.protocol.specs.Slices.{Table, main, copies, masks, width, cellByCell}
-use Rattle.protocol.specs.Cell.{Cell, mainValue, copyAt, liveMask, dirtyMask, lockMask, cellBy, cellOf}
-use Rattle.protocol.specs.Step.{seen, answerTo, answer, tableAfter}
+use Rattle.protocol.specs.Names.{ruleOf, procOf}
+use Rattle.protocol.specs.Slices.{Table}
+use Rattle.protocol.specs.Cell.{cellOf}
+use Rattle.protocol.specs.Step.{seen, answer, tableAfter}
 use Rattle.protocol.specs.Fresh.{freshTable}
 use Rattle.protocol.specs.Runs.{CoherentRule, Line, log, tableAfterAll, isRead, isWrite, acceptedRead, acceptedWrite, latestWrite}
-use Rattle.protocol.specs.Handout.{State, IsCurrent, Current, Value, Effect, orElse}
-use Rattle.protocol.specs.CoherentMemory.{Memory, Event, returned, wrote, SKIP, Allowed, after, Run}
+use Rattle.protocol.specs.Handout.{State, IsCurrent, Current}
+use Rattle.protocol.specs.CoherentMemory.{Memory, returned, wrote, SKIP, Allowed, after, Run}
 use Rattle.protocol.specs.AsHandout.{asState, asEvent}
 use Rattle.protocol.proofs.Booleans.{clash, and-left, and-right}
 use Rattle.protocol.proofs.MaskLaws.{has-none}
-use Rattle.protocol.proofs.HandoutLaws.{Among, one-current}
-use Rattle.protocol.proofs.Ladder.{Allows, Coherent, down-to-global, inv3-of}
-use Rattle.protocol.proofs.CurrentKept.{writtenBy, current-kept}
+use Rattle.protocol.proofs.HandoutLaws.{one-current}
+use Rattle.protocol.proofs.Ladder.{Coherent, down-to-global, inv3-of}
+use Rattle.protocol.proofs.CurrentKept.{current-kept}
 use Rattle.protocol.proofs.SoundExactly.{sound-exactly}
 use Rattle.protocol.proofs.NumberLaws.{by-rule, proc-read, proc-writes}
 use Rattle.protocol.proofs.StepLaws.{accepted, step-there}

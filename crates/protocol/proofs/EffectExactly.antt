@@ -1,22 +1,19 @@
 -- An allowed action's stores give the handout's next state, its value is the handout's, and the cell stays sound. Assumes nothing.
-use mathlib.Core.Path.{_≡_, refl, sym, ap, _∙_, fun-ext}
-use mathlib.Core.Logic.{_≢_, _⊎_, inl, inr, _↔_}
-use mathlib.Core.Bool.{Bool, true, false, cond}
-use mathlib.Core.List.{List, [], _∷_}
+use mathlib.Core.Path.{_≡_, refl, sym, _∙_, fun-ext}
+use mathlib.Core.Bool.{true, false, cond}
 use mathlib.Core.Option.{Option, some, none}
 use Prim.Native.Nat.{ℕ, _<_, _≤_}
 use native.Mathlib.Omega.{arith}
 use native.Mathlib.Decide.{ℕ-discrete}
-use lib.Dec.{eqb}
 use borrow.Author.Tests.{eq-eqb, ne-eqb}
 use Rattle.protocol.specs.Names.{Rule, IncoherentMemory, GlobalImpl, CurrentCaches, ExclusiveLocks0, ExclusiveLocks}
 use Rattle.protocol.specs.Names.{Proc, Read, Write, Barrier, MtoC, CtoM, CtoC, Drop, Acquire, Release}
 use Rattle.protocol.specs.Masks.{hasBoard, withBoard, withoutBoard}
-use Rattle.protocol.specs.Slices.{main, copies, masks, width}
+use Rattle.protocol.specs.Slices.{width}
 use Rattle.protocol.specs.Cell.{Cell, mainValue, copyAt, liveMask, dirtyMask, lockMask}
 use Rattle.protocol.specs.Soundness.{ruleNumber, sound}
 use Rattle.protocol.specs.Effects.{effect, valueOf, sliceNumber}
-use Rattle.protocol.specs.Handout.{State, Live, Guard, Effect, Value, setAt, Inv2, Invariants}
+use Rattle.protocol.specs.Handout.{State, Guard, Effect, Value, setAt, Inv2}
 use Rattle.protocol.specs.AsHandout.{asState, Stands}
 use Rattle.protocol.proofs.Booleans.{clash}
 use Rattle.protocol.proofs.MaskLaws.{has-with-same, has-with-other, has-without-same, has-without-other}

@@ -1,14 +1,13 @@
 -- On a sound cell no test of an action's guard refuses exactly when the handout's guard holds. Assumes nothing.
-use mathlib.Core.Path.{_≡_, refl, sym, ap, _∙_}
-use mathlib.Core.Logic.{_≢_, _⊎_, inl, inr, _↔_}
-use mathlib.Core.Bool.{Bool, true, false, cond, not, _&&_, _||_, false≢true}
-use mathlib.Core.List.{List, [], _∷_, map}
-use mathlib.Core.Option.{Option, some, none}
+use mathlib.Core.Path.{_≡_, refl, sym, _∙_}
+use mathlib.Core.Logic.{_⊎_, inl, inr, _↔_}
+use mathlib.Core.Bool.{Bool, true, false, not, _&&_}
+use mathlib.Core.Option.{none}
 use Prim.Native.Nat.{ℕ, _<_, _≤_}
 use native.Mathlib.Omega.{arith}
 use native.Mathlib.Decide.{ℕ-discrete, decLt}
 use lib.Dec.{eqb}
-use borrow.Author.Tests.{eq-eqb, eqb-true, not-true, not-false}
+use borrow.Author.Tests.{eq-eqb, eqb-true, not-false}
 use Rattle.protocol.specs.Names.{Rule, IncoherentMemory, GlobalImpl, CurrentCaches, ExclusiveLocks0, ExclusiveLocks}
 use Rattle.protocol.specs.Names.{Proc, Read, Write, Barrier, MtoC, CtoM, CtoC, Drop, Acquire, Release}
 use Rattle.protocol.specs.Masks.{hasBoard, hasAnother}
@@ -16,9 +15,9 @@ use Rattle.protocol.specs.Cell.{Cell, copyAt, liveMask, dirtyMask, lockM
 use Rattle.protocol.specs.Soundness.{noBitAtPOrAbove}
 use Rattle.protocol.specs.First.{NoneHolds}
 use Rattle.protocol.specs.Guards.{tests, stands, guard}
-use Rattle.protocol.specs.Handout.{State, Live, Clean, Free, Only, Current, Guard, Invariants, Inv2, Inv3}
+use Rattle.protocol.specs.Handout.{Live, Current, Guard, Invariants, Inv2, Inv3}
 use Rattle.protocol.specs.AsHandout.{asState, Stands}
-use Rattle.protocol.proofs.Booleans.{clash, not-so, and-both}
+use Rattle.protocol.proofs.Booleans.{clash, not-so}
 use Rattle.protocol.proofs.MaskLaws.{has-none, none-of, another-false}
 use Rattle.protocol.proofs.HandoutLaws.{Among, not-nil}
 use Rattle.protocol.proofs.SoundExactly.{Words, live-is, only-is, current-is}

@@ -1,15 +1,15 @@
 -- Laws of the handout's states: assignment to one processor's variable, and the one current value. Assumes nothing.
 use mathlib.Core.Path.{_≡_, refl, sym, _∙_}
-use mathlib.Core.Logic.{_≢_, _⊎_, inl, inr}
-use mathlib.Core.Bool.{Bool, true, false, cond}
-use mathlib.Core.Option.{Option, some, none}
+use mathlib.Core.Logic.{_≢_, inl, inr}
+use mathlib.Core.Bool.{cond}
+use mathlib.Core.Option.{some, none}
 use Prim.Native.Nat.{ℕ, _<_}
 use native.Mathlib.Omega.{arith}
 use native.Mathlib.Decide.{ℕ-discrete}
 use lib.Dec.{eqb}
 use borrow.Author.Tests.{eq-eqb, ne-eqb}
 use Rattle.protocol.specs.Names.{Proc, Read, Write, Barrier, MtoC, CtoM, CtoC, Drop, Acquire, Release}
-use Rattle.protocol.specs.Handout.{State, Clean, IsCurrent, Inv3, setAt}
+use Rattle.protocol.specs.Handout.{State, IsCurrent, Inv3, setAt}
 use Rattle.protocol.proofs.Booleans.{clash}
 
 -- the processors that an action names are among the P

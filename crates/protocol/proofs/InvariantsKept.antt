@@ -6,8 +6,8 @@ use mathlib.Core.Option.{Option, some, none}
 use Prim.Native.Nat.{ℕ, _<_}
 use Rattle.protocol.specs.Names.{Rule, IncoherentMemory, GlobalImpl, CurrentCaches, ExclusiveLocks0, ExclusiveLocks}
 use Rattle.protocol.specs.Names.{Proc, Read, Write, Barrier, MtoC, CtoM, CtoC, Drop, Acquire, Release}
-use Rattle.protocol.specs.Handout.{State, Live, Clean, Free, Only, IsCurrent, Current, Guard, Effect, setAt, orElse, Inv1, Inv2, Inv3, Inv4, Inv5, Inv6, Inv7, Invariants}
-use Rattle.protocol.proofs.Booleans.{clash, not-so}
+use Rattle.protocol.specs.Handout.{State, Clean, Free, IsCurrent, Current, Guard, Effect, setAt, Inv2, Inv3, Inv4, Inv5, Inv6, Inv7, Invariants}
+use Rattle.protocol.proofs.Booleans.{clash}
 use Rattle.protocol.proofs.HandoutLaws.{Among, not-nil, set-at, set-same, set-other}
 use Rattle.protocol.proofs.Ladder.{Allows, allows, to-incoherent, to-global, to-current, to-locks0}
 use Rattle.protocol.proofs.CurrentKept.{writtenBy, current-kept}

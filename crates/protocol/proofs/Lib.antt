@@ -13,6 +13,7 @@ pub mod FirstLaws
 pub mod NumberLaws
 pub mod StepLaws
 pub mod Demand1
+pub mod InWords
 pub mod CheckExactly
 pub mod FreshExactly
 pub mod Demand2
@@ -20,3 +21,5 @@ pub mod Slips
 pub mod Demand3Order
 pub mod FreshLaws
 pub mod Demand3Reads
+pub mod FreshStaysSound
+pub mod SixteenCases

@@ -4,14 +4,13 @@ use mathlib.Core.Logic.{_≢_, _↔_}
 use mathlib.Core.Bool.{Bool, true, false, cond, not}
 use Prim.Native.Nat.{ℕ, zero, suc, _+_, _-_, _*_, _/_, _%_, _^_, _≤_, _<_}
 use native.Mathlib.Omega.{arith}
-use native.Mathlib.Decide.{ℕ-discrete, decLt}
+use native.Mathlib.Decide.{ℕ-discrete}
 use native.Mathlib.Nat.{suc-inj, suc-ne-zero, div-div-eq-div-mul}
 use lib.Dec.{eqb}
-use lib.Pow.{pow-pos}
 use lib.Count.{ones, onesIn, ones-step, trailingZeros, under}
 use borrow.Author.Tests.{eq-eqb, eqb-true, eqb-false, ne-eqb, not-false}
 use Rattle.protocol.specs.Masks.{hasBoard, withBoard, withoutBoard, hasAnother, lowestBoard}
-use Rattle.protocol.proofs.Booleans.{clash, not-so}
+use Rattle.protocol.proofs.Booleans.{not-so}
 
 -- ---- digit by digit
 

@@ -1,19 +1,19 @@
 -- The numbers of rules and actions, case by case: what the conditions on raw numbers say of the named rule and action. Assumes nothing.
-use mathlib.Core.Path.{_≡_, refl, sym, ap, _∙_}
+use mathlib.Core.Path.{_≡_, refl}
 use mathlib.Core.Logic.{_≢_, _↔_}
-use mathlib.Core.Bool.{Bool, true, false, cond, not, _&&_, _||_, true≢false}
+use mathlib.Core.Bool.{true, false, cond, not, _&&_, _||_, true≢false}
 use Prim.Native.Nat.{ℕ, zero, suc, _<_, _≤_}
 use native.Mathlib.Omega.{arith}
 use lib.Dec.{eqb, ltb, leb}
 use borrow.Author.Tests.{leb-false, ltb-false}
 use Rattle.protocol.specs.declared.Action.{Action}
-use Rattle.protocol.specs.Names.{Rule, Proc, Read, Barrier, Acquire, Release, ruleOf, procOf}
+use Rattle.protocol.specs.Names.{Read, Barrier, Acquire, Release, ruleOf, procOf}
 use Rattle.protocol.specs.Cell.{Cell}
 use Rattle.protocol.specs.Effects.{valueOf}
 use Rattle.protocol.specs.Step.{malformed, missing, offBoard}
 use Rattle.protocol.specs.Runs.{isWrite}
 use Rattle.protocol.proofs.CurrentKept.{writtenBy}
-use Rattle.protocol.proofs.Booleans.{clash, or-left, or-right}
+use Rattle.protocol.proofs.Booleans.{or-left, or-right}
 use Rattle.protocol.proofs.HandoutLaws.{Among}
 use Rattle.protocol.proofs.GuardExactly.{Has}
 

@@ -1,20 +1,19 @@
 -- "Refusing Drop on a board that isn't live, or Release on a board without the lock": both are accepted and change nothing. Assumes nothing.
-use mathlib.Core.Path.{_≡_, refl, sym, ap, _∙_, fun-ext}
-use mathlib.Core.Logic.{_≢_, _↔_}
-use mathlib.Core.Bool.{Bool, true, false}
-use mathlib.Core.Option.{Option, none}
+use mathlib.Core.Path.{_≡_, refl, sym, _∙_, fun-ext}
+use mathlib.Core.Bool.{false}
+use mathlib.Core.Option.{none}
 use Prim.Native.Nat.{ℕ, _<_, _≤_}
 use native.Mathlib.Omega.{arith}
 use Rattle.protocol.specs.declared.Action.{Action}
-use Rattle.protocol.specs.Names.{Rule, Proc, Drop, Release, ruleOf, procOf}
+use Rattle.protocol.specs.Names.{Drop, Release, ruleOf, procOf}
 use Rattle.protocol.specs.Masks.{hasBoard}
 use Rattle.protocol.specs.Slices.{Table}
 use Rattle.protocol.specs.Cell.{Cell, liveMask, lockMask, cellOf}
 use Rattle.protocol.specs.Step.{seen, refusals, answer, tableAfter}
-use Rattle.protocol.specs.Handout.{State, Guard, Effect, Invariants, setAt}
+use Rattle.protocol.specs.Handout.{Guard, Effect, Invariants, setAt}
 use Rattle.protocol.specs.AsHandout.{asState, NoOtherHolds}
 use Rattle.protocol.proofs.Booleans.{clash, not-so}
-use Rattle.protocol.proofs.HandoutLaws.{Among, set-at}
+use Rattle.protocol.proofs.HandoutLaws.{set-at}
 use Rattle.protocol.proofs.Ladder.{inv2-of}
 use Rattle.protocol.proofs.SoundExactly.{sound-exactly}
 use Rattle.protocol.proofs.GuardExactly.{nil-is}

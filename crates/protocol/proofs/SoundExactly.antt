@@ -1,21 +1,20 @@
 -- A cell is sound exactly when what document 01 adds holds of it, and the handout's invariants of its rule, in the handout's words.
 -- Assumes nothing.
-use mathlib.Core.Path.{_≡_, refl, sym, ap, _∙_}
-use mathlib.Core.Logic.{_≢_, _⊎_, inl, inr, _↔_}
+use mathlib.Core.Path.{_≡_, refl, sym, _∙_}
+use mathlib.Core.Logic.{_≢_, inl, inr, _↔_}
 use mathlib.Core.Bool.{Bool, true, false, cond, not, _&&_, _||_, false≢true}
-use mathlib.Core.Option.{Option, some, none}
+use mathlib.Core.Option.{some, none}
 use Prim.Native.Nat.{ℕ, _<_, _≤_, _^_}
 use native.Mathlib.Omega.{arith}
 use native.Mathlib.Decide.{ℕ-discrete, decLt}
 use lib.Dec.{eqb, ltb, leb}
-use lib.Count.{ones}
-use borrow.Author.Tests.{eq-eqb, eqb-true, eqb-false, ne-eqb, ltb-true, lt-ltb, leb-true, le-leb, not-true}
+use borrow.Author.Tests.{eq-eqb, eqb-true, eqb-false, ltb-true, lt-ltb, leb-true, le-leb, not-true}
 use Rattle.protocol.specs.Names.{Rule, IncoherentMemory, GlobalImpl, CurrentCaches, ExclusiveLocks0, ExclusiveLocks}
 use Rattle.protocol.specs.Masks.{hasBoard, hasAnother, lowestBoard}
 use Rattle.protocol.specs.Cell.{Cell, mainValue, copyAt, liveMask, dirtyMask, lockMask, currentValue}
 use Rattle.protocol.specs.Soundness.{Condition, conditions, noBitAtPOrAbove, notLiveHolds0, lockMaskIs0, dirtyIsLive, oneDirty, liveIsCurrent, oneLock, lockedIsOnly, dirtyIsLocked}
-use Rattle.protocol.specs.Soundness.{ruleNumber, from, upTo, askedBy, everyBoard, meets, sound}
-use Rattle.protocol.specs.Handout.{State, Live, Clean, IsCurrent, Current, Inv1, Inv2, Inv3, Inv4, Inv5, Inv6, Inv7, Invariants}
+use Rattle.protocol.specs.Soundness.{ruleNumber, from, upTo, askedBy, meets, sound}
+use Rattle.protocol.specs.Handout.{Live, IsCurrent, Current, Inv2, Inv3, Inv4, Inv5, Inv6, Inv7, Invariants}
 use Rattle.protocol.specs.AsHandout.{asState, Stands}
 use Rattle.protocol.proofs.Booleans.{clash, not-so, and-left, and-right, and-both, implies, implied, either, every-at, every-of, board-at, board-of}
 use Rattle.protocol.proofs.MaskLaws.{has-none, high-of-lt, lt-of-high, another-false, ones-same, same-ones, has-lowest}

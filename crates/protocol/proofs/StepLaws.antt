@@ -1,32 +1,31 @@
 -- What an accepted action rests on, and how a step looks from one cell. Assumes nothing.
-use mathlib.Core.Path.{_≡_, refl, sym, ap, _∙_}
-use mathlib.Core.Logic.{_≢_, _↔_}
-use mathlib.Core.Bool.{Bool, true, false, cond, not}
+use mathlib.Core.Path.{_≡_, refl, ap}
+use mathlib.Core.Logic.{_≢_}
+use mathlib.Core.Bool.{Bool, true, false, cond}
 use mathlib.Core.List.{List, [], _∷_, map}
 use Prim.Native.Nat.{ℕ, _<_, _≤_}
 use native.Mathlib.Omega.{arith}
-use lib.Dec.{eqb, ltb, leb}
-use lib.ListN.{length}
-use borrow.Author.Tests.{eqb-true, eq-eqb, ltb-false, leb-false, not-false}
+use lib.Dec.{eqb}
+use borrow.Author.Tests.{eqb-true, ltb-false, leb-false, not-false}
 use Rattle.protocol.specs.declared.Action.{Action}
 use Rattle.protocol.specs.declared.Answer.{Answer}
-use Rattle.protocol.specs.Names.{Rule, Proc, ruleOf, procOf}
-use Rattle.protocol.specs.Slices.{Slice, Table, sizesGood, cellByCell}
+use Rattle.protocol.specs.Names.{ruleOf, procOf}
+use Rattle.protocol.specs.Slices.{Table, sizesGood, cellByCell}
 use Rattle.protocol.specs.Cell.{Cell, cellOf}
 use Rattle.protocol.specs.Soundness.{sound}
-use Rattle.protocol.specs.First.{Refusal, when, first, NoneHolds}
+use Rattle.protocol.specs.First.{when, NoneHolds}
 use Rattle.protocol.specs.Guards.{Test, notLive, isDirty, notDirty, dirtyElsewhere, onlyDirtyElsewhere, anotherCopy, lockedByAnother, lockHeld, lockNotHeld, notCurrent, stillLive}
 use Rattle.protocol.specs.Guards.{numberOf, stands, tests, guard}
 use Rattle.protocol.specs.Effects.{effect, valueOf, storesIn}
-use Rattle.protocol.specs.Step.{malformed, missing, offBoard, Seen, seen, refusals, answerTo, answer, tableAfter}
+use Rattle.protocol.specs.Step.{Seen, seen, refusals, answerTo, answer, tableAfter}
 use Rattle.protocol.specs.Handout.{Guard}
 use Rattle.protocol.specs.AsHandout.{asState, inHandout, NoOtherHolds}
 use Rattle.protocol.proofs.FirstLaws.{Refuse, first-accepted, first-none}
 use Rattle.protocol.proofs.HandoutLaws.{Among}
 use Rattle.protocol.proofs.PlaceLaws.{by-cell}
-use Rattle.protocol.proofs.CellLaws.{stores, Sized, sizes-of, same-sizes, length-stores, stores-here, stores-there}
+use Rattle.protocol.proofs.CellLaws.{stores, sizes-of, same-sizes, length-stores, stores-here, stores-there}
 use Rattle.protocol.proofs.SoundExactly.{sound-exactly}
-use Rattle.protocol.proofs.GuardExactly.{Has, guard-exactly}
+use Rattle.protocol.proofs.GuardExactly.{guard-exactly}
 use Rattle.protocol.proofs.EffectExactly.{effect-fits}
 use Rattle.protocol.proofs.NumberLaws.{code-fits, named-among, has-exactly}
 
@@ -59,7 +58,6 @@ all-refuse rule boards cells s a =
 
 pub record Accepted (rule boards cells : ℕ) (s : Seen) (a : Action) : Type 0 where
   pub sizes : s .sizes ≡ true
-  pub ruled : rule ≤ 4
   pub coded : a .code ≤ 8
   pub among : Among boards (procOf a)
   pub inside : a .cell < cells
@@ -77,7 +75,6 @@ module _ (rule boards cells : ℕ) (s : Seen) (a : Action) where
       let S = sound-exactly (ruleOf rule) boards (s .cell) .0 k in
       record {
         sizes = not-false _ n1;
-        ruled = r;
         coded = c;
         among = l;
         inside = leb-false cells (a .cell) n6;

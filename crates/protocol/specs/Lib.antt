@@ -13,3 +13,4 @@ pub mod Runs
 pub mod Handout
 pub mod CoherentMemory
 pub mod AsHandout
+pub mod Cases

@@ -1,6 +1,6 @@
 -- The five rules by the names of the handout's modules, the nine actions by the names of its APROCs, and which numbers stand for them.
 -- Assumes nothing.
-use mathlib.Core.List.{List, [], _∷_}
+use mathlib.Core.List.{[], _∷_}
 use Prim.Native.Nat.{ℕ}
 use lib.ListN.{getD}
 use Rattle.protocol.specs.declared.Action.{Action}

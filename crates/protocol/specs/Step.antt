@@ -1,6 +1,6 @@
 -- One action on a table: the whole order of refusals, its answer, and the table after it. Assumes nothing.
 use mathlib.Core.Bool.{Bool, cond, not, _&&_, _||_}
-use mathlib.Core.List.{List, [], _∷_}
+use mathlib.Core.List.{List, _∷_}
 use Prim.Native.Nat.{ℕ}
 use lib.Dec.{eqb, ltb, leb}
 use Rattle.protocol.specs.declared.Action.{Action}
