@@ -7,11 +7,11 @@ use mathlib.Core.List.{List, [], _∷_}
 use Prim.Native.Nat.{ℕ, zero, suc, _*_, _<_, _≤_}
 use native.Mathlib.Omega.{arith}
 use native.Mathlib.Decide.{ℕ-discrete}
-use lib.Dec.{eqb, ltb, leb}
+use lib.Dec.{eqb, ltb}
 use lib.ListN.{length, getD, set, length-set}
 use lib.Seq.{getD-set-same, getD-set-other, ext-getD}
 use borrow.Author.Tests.{eq-eqb, ne-eqb, eqb-true, ltb-true, lt-ltb, le-ltb}
-use Rattle.protocol.specs.Slices.{Slice, main, copies, masks, slices, Table, Places, width, every, sizesGood}
+use Rattle.protocol.specs.Slices.{Slice, main, copies, masks, slices, Table, Places, width, every, inRange, sizesGood}
 use Rattle.protocol.specs.Cell.{Cell, cellBy}
 use Rattle.protocol.specs.Effects.{Store, put, sliceNumber, storeBy, storesBy}
 use Rattle.protocol.proofs.Booleans.{and-left, and-right, every-at}
@@ -70,7 +70,7 @@ sizes-of boards cells t e s = eqb-true _ _ (at s)
     test s = eqb (length (t s)) (cells * width boards s)
 
     all : every slices test ≡ true
-    all = and-right ((leb 1 boards && leb boards 16) && (leb 1 cells && leb cells 512)) (every slices test) e
+    all = and-right (inRange boards cells) (every slices test) e
 
     at : (s : Slice) → eqb (length (t s)) (cells * width boards s) ≡ true
     at main = every-at slices test 0 main (omega arith) all

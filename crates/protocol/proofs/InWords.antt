@@ -7,7 +7,7 @@ use lib.Dec.{eqb, ltb, leb}
 use lib.ListN.{length}
 use borrow.Author.Tests.{eq-eqb, eqb-true, eqb-false, ne-eqb, ltb-true, lt-ltb, leb-true, le-leb, not-true}
 use Rattle.protocol.specs.declared.Action.{Action}
-use Rattle.protocol.specs.Slices.{Slice, slices, Table, width, every, sizesGood}
+use Rattle.protocol.specs.Slices.{Slice, slices, Table, width, every, inRange, sizesGood}
 use Rattle.protocol.specs.Step.{malformed, missing, offBoard}
 use Rattle.protocol.proofs.Booleans.{and-left, and-right, and-both, every-of}
 use Rattle.protocol.proofs.CellLaws.{sizes-of}
@@ -69,16 +69,21 @@ unfolding offBoard
 offBoard-exactly boards a =
     either (leb boards (a .board)) (eqb (a .code) 5 && leb boards (a .to)) (up-to boards (a .board)) (both (eqb (a .code) 5) (leb boards (a .to)) (is (a .code) 5) (up-to boards (a .to)))
 
--- P is 1 to 16, N is 1 to 512, and each slice has exactly its length
+-- P is 1 to 16, N is 1 to 512
+pub range-exactly : (boards cells : ℕ) → (inRange boards cells ≡ true) ↔ (((1 ≤ boards) × (boards ≤ 16)) × ((1 ≤ cells) × (cells ≤ 512)))
+unfolding inRange
+range-exactly boards cells =
+    both (leb 1 boards && leb boards 16) (leb 1 cells && leb cells 512)
+    (both (leb 1 boards) (leb boards 16) (up-to 1 boards) (up-to boards 16)) (both (leb 1 cells) (leb cells 512) (up-to 1 cells) (up-to cells 512))
+
+-- and each slice has exactly its length
 pub sizes-exactly : (boards cells : ℕ) (t : Table) →
-    (sizesGood boards cells t ≡ true) ↔ (((((1 ≤ boards) × (boards ≤ 16)) × ((1 ≤ cells) × (cells ≤ 512)))) × ((s : Slice) → length (t s) ≡ cells * width boards s))
+    (sizesGood boards cells t ≡ true) ↔ ((((1 ≤ boards) × (boards ≤ 16)) × ((1 ≤ cells) × (cells ≤ 512))) × ((s : Slice) → length (t s) ≡ cells * width boards s))
 unfolding sizesGood
-sizes-exactly boards cells t =
-    let k = both (leb 1 boards && leb boards 16) (leb 1 cells && leb cells 512)
-    (both (leb 1 boards) (leb boards 16) (up-to 1 boards) (up-to boards 16)) (both (leb 1 cells) (leb cells 512) (up-to 1 cells) (up-to cells 512)) in (
-      (λ e. (k .0 (and-left ((leb 1 boards && leb boards 16) && (leb 1 cells && leb cells 512)) (every slices test) e), sizes-of boards cells t e)),
-      λ f. and-both ((leb 1 boards && leb boards 16) && (leb 1 cells && leb cells 512)) (every slices test) (k .1 (f .0)) (every-of slices test (λ s. eq-eqb _ _ (f .1 s))),
-    )
+sizes-exactly boards cells t = (
+  (λ e. (range-exactly boards cells .0 (and-left (inRange boards cells) (every slices test) e), sizes-of boards cells t e)),
+  λ f. and-both (inRange boards cells) (every slices test) (range-exactly boards cells .1 (f .0)) (every-of slices test (λ s. eq-eqb _ _ (f .1 s))),
+)
   where
     test : Slice → Bool
     test s = eqb (length (t s)) (cells * width boards s)

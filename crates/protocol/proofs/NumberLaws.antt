@@ -1,11 +1,10 @@
 -- The numbers of rules and actions, case by case: what the conditions on raw numbers say of the named rule and action. Assumes nothing.
 use mathlib.Core.Path.{_≡_, refl}
-use mathlib.Core.Logic.{_≢_, _↔_}
-use mathlib.Core.Bool.{true, false, cond, not, _&&_, _||_, true≢false}
+use mathlib.Core.Logic.{_≢_, inl, inr, _↔_}
+use mathlib.Core.Bool.{true, false, cond, true≢false}
 use Prim.Native.Nat.{ℕ, zero, suc, _<_, _≤_}
 use native.Mathlib.Omega.{arith}
-use lib.Dec.{eqb, ltb, leb}
-use borrow.Author.Tests.{leb-false, ltb-false}
+use native.Mathlib.Decide.{decLt}
 use Rattle.protocol.specs.declared.Action.{Action}
 use Rattle.protocol.specs.Names.{Read, Barrier, Acquire, Release, ruleOf, procOf}
 use Rattle.protocol.specs.Cell.{Cell}
@@ -13,7 +12,8 @@ use Rattle.protocol.specs.Effects.{valueOf}
 use Rattle.protocol.specs.Step.{malformed, missing, offBoard}
 use Rattle.protocol.specs.Runs.{isWrite}
 use Rattle.protocol.proofs.CurrentKept.{writtenBy}
-use Rattle.protocol.proofs.Booleans.{or-left, or-right}
+use Rattle.protocol.proofs.Booleans.{clash}
+use Rattle.protocol.proofs.InWords.{malformed-exactly, offBoard-exactly}
 use Rattle.protocol.proofs.HandoutLaws.{Among}
 use Rattle.protocol.proofs.GuardExactly.{Has}
 
@@ -34,11 +34,11 @@ by-code F f0 f1 f2 f3 f4 f5 f6 f7 f8 (suc (suc (suc (suc n)))) h = by-rule (λ (
 
 -- an action that is well formed has a code up to 8
 pub code-fits : (a : Action) → malformed a ≡ false → a .code ≤ 8
-unfolding malformed
-code-fits a e =
-    ltb-false 8 (a .code)
-    (or-left (ltb 8 (a .code)) (not (eqb (a .code) 5) && not (eqb (a .to) 0))
-    (or-left (ltb 8 (a .code) || not (eqb (a .code) 5) && not (eqb (a .to) 0)) (not (eqb (a .code) 1) && not (eqb (a .value) 0)) e))
+code-fits a e = go (decLt 8 (a .code))
+  where
+    go : Dec (8 < a .code) → a .code ≤ 8
+    go (yes l) = absurd (clash (malformed-exactly a .1 (inl (inl l))) e)
+    go (no n) = omega arith
 
 -- the same action under another code
 abbrev coded : Action → ℕ → Action
@@ -46,15 +46,23 @@ coded a code = record { code = code; board = a .board; to = a .to; cell = a .cel
 
 -- the boards that it names are below P
 pub named-among : (boards : ℕ) (a : Action) → a .code ≤ 8 → offBoard boards a ≡ false → Among boards (procOf a)
-unfolding offBoard procOf
-named-among boards a =
-    by-code (λ (k : ℕ). offBoard boards (coded a k) ≡ false → Among boards (procOf (coded a k))) board board board board board both board board board (a .code)
+unfolding procOf
+named-among boards a c e =
+    by-code (λ (k : ℕ). (k ≡ 5 → a .to < boards) → Among boards (procOf (coded a k))) (λ f. board) (λ f. board) (λ f. board) (λ f. board) (λ f. board) (λ f. (board, f refl)) (λ f. board) (λ f. board) (λ f. board) (a .code) c to
   where
-    board : (leb boards (a .board) || false) ≡ false → a .board < boards
-    board e = leb-false boards (a .board) (or-left (leb boards (a .board)) false e)
+    board : a .board < boards
+    board = go (decLt (a .board) boards)
+      where
+        go : Dec (a .board < boards) → a .board < boards
+        go (yes l) = l
+        go (no n) = absurd (clash (offBoard-exactly boards a .1 (inl (omega arith))) e)
 
-    both : (leb boards (a .board) || leb boards (a .to)) ≡ false → (a .board < boards) × (a .to < boards)
-    both e = (leb-false boards (a .board) (or-left (leb boards (a .board)) (leb boards (a .to)) e), leb-false boards (a .to) (or-right (leb boards (a .board)) (leb boards (a .to)) e))
+    to : a .code ≡ 5 → a .to < boards
+    to five = go (decLt (a .to) boards)
+      where
+        go : Dec (a .to < boards) → a .to < boards
+        go (yes l) = l
+        go (no n) = absurd (clash (offBoard-exactly boards a .1 (inr (five, omega arith))) e)
 
 -- the rule has the action
 pub has-exactly : (rule : ℕ) (a : Action) → rule ≤ 4 → a .code ≤ 8 → (missing rule (a .code) ≡ false) ↔ Has (ruleOf rule) (procOf a)

@@ -4,7 +4,7 @@ use mathlib.Core.List.{map}
 use lib.Count.{ones, onesIn, trailingZeros}
 use Rattle.protocol.specs.Names.{ruleOf, procOf}
 use Rattle.protocol.specs.Masks.{hasBoard, withBoard, withoutBoard, hasAnother, lowestBoard}
-use Rattle.protocol.specs.Slices.{width, cellByCell, every, sizesGood}
+use Rattle.protocol.specs.Slices.{width, cellByCell, every, inRange, sizesGood}
 use Rattle.protocol.specs.Cell.{cellBy, currentValue}
 use Rattle.protocol.specs.Soundness.{ruleNumber, from, upTo, askedBy, everyBoard, meets, sound}
 use Rattle.protocol.specs.First.{first}
@@ -14,5 +14,5 @@ use Rattle.protocol.specs.Step.{malformed, missing, offBoard, seen, refu
 use Rattle.protocol.specs.Cases.{state, S0, S1, S2, S3, row, cases, played}
 
 pub sixteen : map played cases ≡ cases
-unfolding cases row state S0 S1 S2 S3 played answer tableAfter answerTo refusals seen first malformed missing offBoard sizesGood every width cellByCell cellBy sound meets askedBy everyBoard ruleNumber from upTo hasBoard withBoard withoutBoard hasAnother lowestBoard currentValue guard tests stands numberOf effect valueOf sliceNumber storeBy storesBy ruleOf procOf ones onesIn trailingZeros
+unfolding cases row state S0 S1 S2 S3 played answer tableAfter answerTo refusals seen first malformed missing offBoard inRange sizesGood every width cellByCell cellBy sound meets askedBy everyBoard ruleNumber from upTo hasBoard withBoard withoutBoard hasAnother lowestBoard currentValue guard tests stands numberOf effect valueOf sliceNumber storeBy storesBy ruleOf procOf ones onesIn trailingZeros
 sixteen = refl

@@ -38,9 +38,10 @@ unfoldable pub every {ℓ} : {A : Type ℓ} → List A → (A → Bool) → Bool
 every [] test = true
 every (a ∷ l) test = test a && every l test
 
--- P is 1 to 16, N is 1 to 512, and "the lengths must be exactly these"
+-- "P boards (1 to 16 ..) and N cells (1 to 512 ..)"
+unfoldable pub inRange : (boards cells : ℕ) → Bool
+inRange boards cells = (leb 1 boards && leb boards 16) && (leb 1 cells && leb cells 512)
+
+-- "The lengths must be exactly these"
 unfoldable pub sizesGood : (boards cells : ℕ) → Table → Bool
-sizesGood boards cells t =
-    (leb 1 boards && leb boards 16)
-    && (leb 1 cells && leb cells 512)
-    && every slices (λ s. eqb (length (t s)) (cells * width boards s))
+sizesGood boards cells t = inRange boards cells && every slices (λ s. eqb (length (t s)) (cells * width boards s))
