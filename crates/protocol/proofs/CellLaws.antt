@@ -11,9 +11,10 @@ use lib.Dec.{eqb, ltb}
 use lib.ListN.{length, getD, set, length-set}
 use lib.Seq.{getD-set-same, getD-set-other, ext-getD}
 use borrow.Author.Tests.{eq-eqb, ne-eqb, eqb-true, ltb-true, lt-ltb, le-ltb}
+use Rattle.protocol.specs.Slices.{sliceNumber}
 use Rattle.protocol.specs.Slices.{Slice, main, copies, masks, slices, Table, Places, width, every, inRange, sizesGood}
 use Rattle.protocol.specs.Cell.{Cell, cellBy}
-use Rattle.protocol.specs.Effects.{Store, put, sliceNumber, storeBy, storesBy}
+use Rattle.protocol.specs.Effects.{Store, put, storeBy, storesBy}
 use Rattle.protocol.proofs.Booleans.{and-left, and-right, every-at}
 use Rattle.protocol.proofs.PlaceLaws.{Proper}
 
@@ -46,7 +47,7 @@ same-slice s u e = sym (back s) ∙ ap sliceAt e ∙ back u
 
 -- ---- lengths
 
-abbrev pub Sized : (boards cells : ℕ) → Table → Type 0
+abbrev Sized : (boards cells : ℕ) → Table → Type 0
 Sized boards cells t = (s : Slice) → length (t s) ≡ cells * width boards s
 
 length-store : (places : Places) (c : ℕ) (t : Table) (e : Store) (u : Slice) → length (storeBy places c t e u) ≡ length (t u)
@@ -157,7 +158,7 @@ pub same-table : (places : Places) (boards cells : ℕ) → Proper places boards
     ((c : ℕ) → cellBy places boards cells t c ≡ cellBy places boards cells u c) → t ≡ u
 unfolding cellBy
 same-table places boards cells ok t u y z e =
-    fun-ext (λ s. ext-getD 0 (t s) (u s) (y s ∙ sym (z s)) (λ i h. let f = ok .filled s i (omega (arith, y s, h)) in at s i (f .0) (f .1) (f .2) (f .3) (f .4)))
+    fun-ext (λ s. ext-getD 0 (t s) (u s) (y s ∙ sym (z s)) (λ i h. let f = ok .onto s i (omega (arith, y s, h)) in at s i (f .0) (f .1) (f .2) (f .3) (f .4)))
   where
     at : (s : Slice) (i c k : ℕ) → c < cells → k < width boards s → i ≡ places s c k → getD (t s) i 0 ≡ getD (u s) i 0
     at s i c k l h q = rw q (rw (lt-ltb k (width boards s) h, lt-ltb c cells l) at (ap (λ (x : Cell). x s k) (e c)))

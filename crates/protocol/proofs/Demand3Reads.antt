@@ -16,7 +16,7 @@ use Rattle.protocol.specs.Slices.{Table}
 use Rattle.protocol.specs.Cell.{cellOf}
 use Rattle.protocol.specs.Step.{seen, answer, tableAfter}
 use Rattle.protocol.specs.Fresh.{freshTable}
-use Rattle.protocol.specs.Runs.{CoherentRule, Line, log, tableAfterAll, isRead, isWrite, acceptedRead, acceptedWrite, latestWrite}
+use Rattle.protocol.specs.Runs.{CoherentRule, Line, lineOf, log, writtenAfter, tableAfterAll, isRead, isWrite, acceptedRead, acceptedWrite, latestWrite}
 use Rattle.protocol.specs.Handout.{State, IsCurrent, Current}
 use Rattle.protocol.specs.CoherentMemory.{Memory, returned, wrote, SKIP, Allowed, after, Run}
 use Rattle.protocol.specs.AsHandout.{asState, asEvent}
@@ -36,14 +36,6 @@ coherent-rule : (rule : ℕ) → CoherentRule rule → Coherent (ruleOf rule)
 unfolding ruleOf
 coherent-rule rule (l, h) = by-rule (λ (r : ℕ). 1 ≤ r → Coherent (ruleOf r)) (λ l. omega arith) (λ l. tt) (λ l. tt) (λ l. tt) (λ l. tt) rule h l
 
--- the line that a step adds to the log
-abbrev lineOf : (rule boards cells : ℕ) → Table → Action → Line
-lineOf rule boards cells t a = record { action = a; told = answer rule boards cells t a }
-
--- what the cell k was last written, after one more line
-abbrev pub writtenIn : (k v : ℕ) → Line → ℕ
-writtenIn k v l = cond (acceptedWrite l && eqb (l .action .cell) k) (l .action .value) v
-
 -- ---- one step
 
 module _ (rule boards cells : ℕ) (co : CoherentRule rule) (t : Table) (a : Action) where
@@ -58,24 +50,24 @@ module _ (rule boards cells : ℕ) (co : CoherentRule rule) (t : Table) (a : Act
       let k = accepted rule boards cells (seen boards cells t (a .cell)) a e in
       let I = sound-exactly (ruleOf rule) boards _ .0 (k .sounds) .1 in
       let co′ = coherent-rule rule co in
-      rw (state-is rule boards cells t a e, ← proc-writes a (k .coded) v)
+      rw (state-is rule boards cells t a e, ← proc-writes a (k .codeFits) v)
       (current-kept boards before v (ruleOf rule) (inv3-of boards before (ruleOf rule) co′ I) (procOf a) (k .among) (down-to-global boards before (ruleOf rule) co′ I (procOf a) (k .among) (k .guarded)) c)
 
   current-here : (v : ℕ) → IsCurrent boards before v →
-      IsCurrent boards (asState (cellOf boards cells (tableAfter rule boards cells t a) (a .cell))) (writtenIn (a .cell) v (lineOf rule boards cells t a))
+      IsCurrent boards (asState (cellOf boards cells (tableAfter rule boards cells t a) (a .cell))) (writtenAfter (a .cell) v (lineOf rule boards cells t a))
   unfolding acceptedWrite
   current-here v c = go (ℕ-discrete (answer rule boards cells t a .number) 0)
     where
       go : Dec (answer rule boards cells t a .number ≡ 0) →
-          IsCurrent boards (asState (cellOf boards cells (tableAfter rule boards cells t a) (a .cell))) (writtenIn (a .cell) v (lineOf rule boards cells t a))
+          IsCurrent boards (asState (cellOf boards cells (tableAfter rule boards cells t a) (a .cell))) (writtenAfter (a .cell) v (lineOf rule boards cells t a))
       go (yes e) = rw (eq-eqb (answer rule boards cells t a .number) 0 e, eq-eqb (a .cell) (a .cell) refl, and-true (isWrite (a .code))) (current-accepted v e c)
       go (no n) = rw (refused-changes-nothing rule boards cells t a n .0, ne-eqb (answer rule boards cells t a .number) 0 n) c
 
   current-step : (m : Memory) → ((k : ℕ) → IsCurrent boards (asState (cellOf boards cells t k)) (m k)) → (k : ℕ) →
-      IsCurrent boards (asState (cellOf boards cells (tableAfter rule boards cells t a) k)) (writtenIn k (m k) (lineOf rule boards cells t a))
+      IsCurrent boards (asState (cellOf boards cells (tableAfter rule boards cells t a) k)) (writtenAfter k (m k) (lineOf rule boards cells t a))
   current-step m f k = go (ℕ-discrete k (a .cell))
     where
-      go : Dec (k ≡ a .cell) → IsCurrent boards (asState (cellOf boards cells (tableAfter rule boards cells t a) k)) (writtenIn k (m k) (lineOf rule boards cells t a))
+      go : Dec (k ≡ a .cell) → IsCurrent boards (asState (cellOf boards cells (tableAfter rule boards cells t a) k)) (writtenAfter k (m k) (lineOf rule boards cells t a))
       go (yes q) = rw q (current-here (m (a .cell)) (f (a .cell)))
       go (no n) = rw (step-there rule boards cells t a k n, ne-eqb (a .cell) k (λ e. n (sym e)), and-false (acceptedWrite (lineOf rule boards cells t a))) (f k)
 
@@ -96,7 +88,7 @@ read-only : (l : Line) → acceptedRead l ≡ true → acceptedWrite l ≡ false
 unfolding acceptedRead acceptedWrite isRead isWrite
 read-only l e = rw (eqb-true (l .action .code) 0 (and-right (eqb (l .told .number) 0) (eqb (l .action .code) 0) e), and-false (eqb (l .told .number) 0))
 
-after-event : (m : Memory) (l : Line) (k : ℕ) → after m (asEvent l) k ≡ writtenIn k (m k) l
+after-event : (m : Memory) (l : Line) (k : ℕ) → after m (asEvent l) k ≡ writtenAfter k (m k) l
 unfolding asEvent
 after-event m l k = go (acceptedRead l) refl (acceptedWrite l) refl
   where
@@ -123,7 +115,7 @@ module _ (rule boards cells : ℕ) (co : CoherentRule rule) where
   unfolding tableAfterAll log latestWrite
   current-run t [] m f k = f k
   current-run t (a ∷ rest) m f k =
-      current-run (tableAfter rule boards cells t a) rest (λ j. writtenIn j (m j) (lineOf rule boards cells t a)) (current-step rule boards cells co t a m f) k
+      current-run (tableAfter rule boards cells t a) rest (λ j. writtenAfter j (m j) (lineOf rule boards cells t a)) (current-step rule boards cells co t a m f) k
 
   allowed-line : (t : Table) (a : Action) (m : Memory) → ((k : ℕ) → IsCurrent boards (asState (cellOf boards cells t k)) (m k)) → Allowed m (asEvent (lineOf rule boards cells t a))
   unfolding asEvent

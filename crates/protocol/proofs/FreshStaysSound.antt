@@ -1,9 +1,9 @@
 -- From a fresh table, under any rule and any list of actions, every cell stays sound, so 7 is never answered; and under rules 2 to 4 every live
 -- copy is at every moment the latest accepted write. Assumes nothing.
-use mathlib.Core.Path.{_≡_, refl, sym, _∙_}
-use mathlib.Core.Logic.{_≢_, inl, inr}
-use mathlib.Core.Bool.{true, false, false≢true}
-use mathlib.Core.List.{List, [], _∷_, map}
+use mathlib.Core.Path.{_≡_}
+use mathlib.Core.Logic.{_≢_}
+use mathlib.Core.Bool.{true, false}
+use mathlib.Core.List.{List, [], _∷_}
 use mathlib.Core.Option.{none}
 use Prim.Native.Nat.{ℕ, _<_, _≤_}
 use native.Mathlib.Omega.{arith}
@@ -15,27 +15,27 @@ use Rattle.protocol.specs.Masks.{hasBoard}
 use Rattle.protocol.specs.Slices.{Table, masks}
 use Rattle.protocol.specs.Cell.{Cell, copyAt, liveMask, cellOf}
 use Rattle.protocol.specs.Soundness.{sound}
-use Rattle.protocol.specs.First.{FirstIs}
-use Rattle.protocol.specs.Guards.{Test, numberOf, stands, tests, guard}
-use Rattle.protocol.specs.Step.{seen, refusals, answer, tableAfter}
+use Rattle.protocol.specs.Step.{answer, tableAfter}
 use Rattle.protocol.specs.Fresh.{freshTable}
 use Rattle.protocol.specs.Runs.{log, tableAfterAll, latestWrite}
 use Rattle.protocol.specs.Handout.{State, Inv2, Inv3, Inv4, Inv5, Inv6, Inv7, Invariants}
 use Rattle.protocol.specs.AsHandout.{asState, Stands}
 use Rattle.protocol.proofs.Booleans.{clash}
 use Rattle.protocol.proofs.MaskLaws.{has-none}
-use Rattle.protocol.proofs.HandoutLaws.{one-current}
-use Rattle.protocol.proofs.SoundExactly.{live-is, cache-is, sound-exactly}
-use Rattle.protocol.proofs.GuardExactly.{nil-is}
+use Rattle.protocol.proofs.HandoutLaws.{inv1}
+use Rattle.protocol.proofs.CellAsState.{live-is, nil-is, copy-current}
+use Rattle.protocol.proofs.SoundExactly.{sound-exactly}
 use Rattle.protocol.proofs.NumberLaws.{by-rule}
-use Rattle.protocol.proofs.StepLaws.{guard-number, step-there}
+use Rattle.protocol.proofs.StepLaws.{step-there}
 use Rattle.protocol.proofs.FreshLaws.{fresh-copies, fresh-masks}
-use Rattle.protocol.proofs.Demand1.{refused-exactly, refused-changes-nothing}
+use Rattle.protocol.proofs.Demand1.{refused-changes-nothing}
+use Rattle.protocol.proofs.RefusalOrder.{answers-7}
 use Rattle.protocol.proofs.Demand2.{sound-after}
 use Rattle.protocol.proofs.Demand3Reads.{latest-is-current}
 
-abbrev AllSound : (rule boards cells : ℕ) → Table → Type 0
-AllSound rule boards cells t = (c : ℕ) → sound (ruleOf rule) boards (cellOf boards cells t c) ≡ true
+-- every cell is sound, those beyond the table too: they hold nothing
+abbrev Sound : (rule boards cells : ℕ) → Table → Type 0
+Sound rule boards cells t = (c : ℕ) → sound (ruleOf rule) boards (cellOf boards cells t c) ≡ true
 
 -- ---- a fresh cell
 
@@ -59,13 +59,13 @@ module _ (P : ℕ) (h : State) (nil : (p : ℕ) → h .c p ≡ none) (clean : (p
   i7 p l d = absurd (clash d (clean p))
 
   empty-invariants : (r : Rule) → Invariants P h r
-  empty-invariants IncoherentMemory = ((λ p l. (_, refl)), i2)
-  empty-invariants GlobalImpl = ((λ p l. (_, refl)), i2, i3)
-  empty-invariants CurrentCaches = ((λ p l. (_, refl)), i2, i3, i4)
-  empty-invariants ExclusiveLocks0 = ((λ p l. (_, refl)), i2, i3, i4, i5, i6)
-  empty-invariants ExclusiveLocks = ((λ p l. (_, refl)), i2, i3, i4, i5, i6, i7)
+  empty-invariants IncoherentMemory = (inv1 P h, i2)
+  empty-invariants GlobalImpl = (inv1 P h, i2, i3)
+  empty-invariants CurrentCaches = (inv1 P h, i2, i3, i4)
+  empty-invariants ExclusiveLocks0 = (inv1 P h, i2, i3, i4, i5, i6)
+  empty-invariants ExclusiveLocks = (inv1 P h, i2, i3, i4, i5, i6, i7)
 
-fresh-sound : (rule boards : ℕ) (starting : List ℕ) → AllSound rule boards (length starting) (freshTable boards starting)
+fresh-sound : (rule boards : ℕ) (starting : List ℕ) → Sound rule boards (length starting) (freshTable boards starting)
 fresh-sound rule boards starting c = sound-exactly (ruleOf rule) boards x .1 (stands, unfold asState in empty-invariants boards (asState x) (λ p. nil-is boards x p .0 (off 0 p)) (off 1) (off 2) (ruleOf rule))
   where
     x : Cell
@@ -76,9 +76,9 @@ fresh-sound rule boards starting c = sound-exactly (ruleOf rule) boards x .1 (st
 
     stands : Stands (ruleOf rule) boards x
     stands = record {
-      noLive = λ p l. off 0 p;
-      noDirty = λ p l. off 1 p;
-      noLock = λ p l. off 2 p;
+      noLiveAtPOrAbove = λ p l. off 0 p;
+      noDirtyAtPOrAbove = λ p l. off 1 p;
+      noLockAtPOrAbove = λ p l. off 2 p;
       notLiveHolds0 = λ p l h. fresh-copies boards starting c p;
       lockMaskIs0 = λ l. fresh-masks boards starting c 2;
     }
@@ -86,7 +86,7 @@ fresh-sound rule boards starting c = sound-exactly (ruleOf rule) boards x .1 (st
 -- ---- every step keeps every cell sound
 
 module _ (rule boards cells : ℕ) where
-  step-sound : (t : Table) (a : Action) → AllSound rule boards cells t → AllSound rule boards cells (tableAfter rule boards cells t a)
+  step-sound : (t : Table) (a : Action) → Sound rule boards cells t → Sound rule boards cells (tableAfter rule boards cells t a)
   step-sound t a s c = go (ℕ-discrete c (a .cell)) (ℕ-discrete (answer rule boards cells t a .number) 0)
     where
       go : Dec (c ≡ a .cell) → Dec (answer rule boards cells t a .number ≡ 0) → sound (ruleOf rule) boards (cellOf boards cells (tableAfter rule boards cells t a) c) ≡ true
@@ -94,30 +94,10 @@ module _ (rule boards cells : ℕ) where
       go (yes q) (no n) = rw (refused-changes-nothing rule boards cells t a n .0) (s c)
       go (no n) d = rw (step-there rule boards cells t a c n) (s c)
 
-  run-sound : (t : Table) (actions : List Action) → AllSound rule boards cells t → AllSound rule boards cells (tableAfterAll rule boards cells t actions)
+  run-sound : (t : Table) (actions : List Action) → Sound rule boards cells t → Sound rule boards cells (tableAfterAll rule boards cells t actions)
   unfolding tableAfterAll
   run-sound t [] s = s
   run-sound t (a ∷ rest) s = run-sound (tableAfter rule boards cells t a) rest (step-sound t a s)
-
-guard-not-7 : (x : Cell) (ts : List Test) → FirstIs 7 (map (λ test. record { holds = stands x test; answer = record { number = numberOf test; value = 0 } }) ts) → ⊥
-guard-not-7 x [] f = f
-guard-not-7 x (t ∷ ts) (inl (h, e)) = omega (arith, guard-number t)
-guard-not-7 x (t ∷ ts) (inr (h, f)) = guard-not-7 x ts f
-
--- on a table whose cells are all sound no action is answered 7
-sound-never-7 : (rule boards cells : ℕ) (t : Table) (a : Action) → AllSound rule boards cells t → answer rule boards cells t a .number ≢ 7
-unfolding refusals seen guard
-sound-never-7 rule boards cells t a s q = go (refused-exactly rule boards cells t a 7 (omega arith) .0 q)
-  where
-    go : FirstIs 7 (refusals rule boards cells (seen boards cells t (a .cell)) a) → ⊥
-    go (inl (h, n)) = omega arith
-    go (inr (h1, inl (h, n))) = omega arith
-    go (inr (h1, inr (h2, inl (h, n)))) = omega arith
-    go (inr (h1, inr (h2, inr (h3, inl (h, n))))) = omega arith
-    go (inr (h1, inr (h2, inr (h3, inr (h4, inl (h, n)))))) = omega arith
-    go (inr (h1, inr (h2, inr (h3, inr (h4, inr (h5, inl (h, n))))))) = omega arith
-    go (inr (h1, inr (h2, inr (h3, inr (h4, inr (h5, inr (h6, inl (h, n)))))))) = false≢true (rw (s (a .cell)) at h)
-    go (inr (h1, inr (h2, inr (h3, inr (h4, inr (h5, inr (h6, inr (h7, f)))))))) = guard-not-7 _ (tests _ _) f
 
 -- ---- the promises
 
@@ -126,7 +106,7 @@ module _ (rule boards : ℕ) (starting : List ℕ) (actions : List Action) where
   stays-sound = run-sound rule boards (length starting) (freshTable boards starting) actions (fresh-sound rule boards starting)
 
   pub never-7 : (a : Action) → answer rule boards (length starting) (tableAfterAll rule boards (length starting) (freshTable boards starting) actions) a .number ≢ 7
-  never-7 a = sound-never-7 rule boards (length starting) _ a stays-sound
+  never-7 a e = clash (stays-sound (a .cell)) (answers-7 rule boards (length starting) _ a .0 e .6)
 
   pub live-is-latest : 2 ≤ rule → rule ≤ 4 → (c p : ℕ) → p < boards →
       hasBoard (liveMask (cellOf boards (length starting) (tableAfterAll rule boards (length starting) (freshTable boards starting) actions) c)) p ≡ true →
@@ -134,10 +114,7 @@ module _ (rule boards : ℕ) (starting : List ℕ) (actions : List Action) where
       ≡ latestWrite c (getD starting c 0) (log rule boards (length starting) (freshTable boards starting) actions)
   live-is-latest l h c p m y =
       let i = late rule h l (sound-exactly (ruleOf rule) boards x .0 (stays-sound c) .1) in
-      let k = i .1 p m (live-is boards x p .0 y) in
-      let e = sym (cache-is boards x p y) ∙ k .1 in
-      let d : copyAt x p ≡ k .0 = cc in
-      d ∙ one-current boards (asState x) (i .0) (k .0) _ (k .2) (latest-is-current rule boards starting (omega arith, h) actions c)
+      copy-current boards x (i .0) p _ y (i .1 p m (live-is boards x p .0 y)) (latest-is-current rule boards starting (omega arith, h) actions c)
     where
       x : Cell
       x = cellOf boards (length starting) (tableAfterAll rule boards (length starting) (freshTable boards starting) actions) c

@@ -1,7 +1,10 @@
+-- The laws and the promises. Assumes nothing.
 pub mod Booleans
 pub mod MaskLaws
 pub mod PlaceLaws
+pub mod BoundedMasks
 pub mod HandoutLaws
+pub mod CellAsState
 pub mod Ladder
 pub mod CurrentKept
 pub mod InvariantsKept
@@ -9,10 +12,13 @@ pub mod SoundExactly
 pub mod GuardExactly
 pub mod CellLaws
 pub mod EffectExactly
+pub mod SoundKept
 pub mod FirstLaws
 pub mod NumberLaws
 pub mod StepLaws
 pub mod Demand1
+pub mod RefusalOrder
+pub mod GuardRows
 pub mod InWords
 pub mod CheckExactly
 pub mod FreshExactly

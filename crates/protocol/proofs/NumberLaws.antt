@@ -41,14 +41,14 @@ code-fits a e = go (decLt 8 (a .code))
     go (no n) = omega arith
 
 -- the same action under another code
-abbrev coded : Action → ℕ → Action
-coded a code = record { code = code; board = a .board; to = a .to; cell = a .cell; value = a .value }
+abbrev withCode : Action → ℕ → Action
+withCode a code = record { code = code; board = a .board; to = a .to; cell = a .cell; value = a .value }
 
 -- the boards that it names are below P
 pub named-among : (boards : ℕ) (a : Action) → a .code ≤ 8 → offBoard boards a ≡ false → Among boards (procOf a)
 unfolding procOf
 named-among boards a c e =
-    by-code (λ (k : ℕ). (k ≡ 5 → a .to < boards) → Among boards (procOf (coded a k))) (λ f. board) (λ f. board) (λ f. board) (λ f. board) (λ f. board) (λ f. (board, f refl)) (λ f. board) (λ f. board) (λ f. board) (a .code) c to
+    by-code (λ (k : ℕ). (k ≡ 5 → a .to < boards) → Among boards (procOf (withCode a k))) (λ f. board) (λ f. board) (λ f. board) (λ f. board) (λ f. board) (λ f. (board, f refl)) (λ f. board) (λ f. board) (λ f. board) (a .code) c to
   where
     board : a .board < boards
     board = go (decLt (a .board) boards)
@@ -68,7 +68,7 @@ named-among boards a c e =
 pub has-exactly : (rule : ℕ) (a : Action) → rule ≤ 4 → a .code ≤ 8 → (missing rule (a .code) ≡ false) ↔ Has (ruleOf rule) (procOf a)
 unfolding missing ruleOf procOf
 has-exactly rule a h =
-    by-code (λ (k : ℕ). (missing rule k ≡ false) ↔ Has (ruleOf rule) (procOf (coded a k))) there there barrier there there there there acquire release (a .code)
+    by-code (λ (k : ℕ). (missing rule k ≡ false) ↔ Has (ruleOf rule) (procOf (withCode a k))) there there barrier there there there there acquire release (a .code)
   where
     there : (false ≡ false) ↔ Unit {0}
     there = ((λ e. tt), λ u. refl)
@@ -89,7 +89,7 @@ has-exactly rule a h =
 pub silent : (x : Cell) (a : Action) → a .code ≤ 8 → a .code ≢ 0 → valueOf x (procOf a) ≡ 0
 unfolding procOf valueOf
 silent x a =
-    by-code (λ (k : ℕ). k ≢ 0 → valueOf x (procOf (coded a k)) ≡ 0) (λ n. absurd (n refl)) (λ n. refl) (λ n. refl) (λ n. refl) (λ n. refl) (λ n. refl) (λ n. refl) (λ n. refl) (λ n. refl) (a .code)
+    by-code (λ (k : ℕ). k ≢ 0 → valueOf x (procOf (withCode a k)) ≡ 0) (λ n. absurd (n refl)) (λ n. refl) (λ n. refl) (λ n. refl) (λ n. refl) (λ n. refl) (λ n. refl) (λ n. refl) (λ n. refl) (a .code)
 
 pub proc-read : (a : Action) → a .code ≡ 0 → procOf a ≡ Read (a .board)
 unfolding procOf
@@ -99,4 +99,4 @@ proc-read a e = rw e
 pub proc-writes : (a : Action) → a .code ≤ 8 → (v : ℕ) → writtenBy (procOf a) v ≡ cond (isWrite (a .code)) (a .value) v
 unfolding procOf writtenBy isWrite
 proc-writes a =
-    by-code (λ (k : ℕ). (v : ℕ) → writtenBy (procOf (coded a k)) v ≡ cond (isWrite k) (a .value) v) (λ v. refl) (λ v. refl) (λ v. refl) (λ v. refl) (λ v. refl) (λ v. refl) (λ v. refl) (λ v. refl) (λ v. refl) (a .code)
+    by-code (λ (k : ℕ). (v : ℕ) → writtenBy (procOf (withCode a k)) v ≡ cond (isWrite k) (a .value) v) (λ v. refl) (λ v. refl) (λ v. refl) (λ v. refl) (λ v. refl) (λ v. refl) (λ v. refl) (λ v. refl) (λ v. refl) (a .code)

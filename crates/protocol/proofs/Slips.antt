@@ -16,10 +16,10 @@ use Rattle.protocol.proofs.Booleans.{clash, not-so}
 use Rattle.protocol.proofs.HandoutLaws.{set-at}
 use Rattle.protocol.proofs.Ladder.{inv2-of}
 use Rattle.protocol.proofs.SoundExactly.{sound-exactly}
-use Rattle.protocol.proofs.GuardExactly.{nil-is}
+use Rattle.protocol.proofs.CellAsState.{nil-is}
 use Rattle.protocol.proofs.NumberLaws.{by-rule}
-use Rattle.protocol.proofs.StepLaws.{formed, accepted}
-use Rattle.protocol.proofs.Demand2.{accepted-when-allowed, only-next}
+use Rattle.protocol.proofs.StepLaws.{accepted}
+use Rattle.protocol.proofs.Demand2.{formed, accepted-when-allowed, only-next}
 
 -- f_p := a, where it was a
 set-nothing {ℓ} : {A : Type ℓ} (f : ℕ → A) (p : ℕ) (a : A) → f p ≡ a → setAt f p a ≡ f
@@ -39,7 +39,7 @@ module _ (rule boards cells : ℕ) (t : Table) (a : Action) (quiet : NoOtherHold
   pub drop-not-live : a .code ≡ 6 → hasBoard (liveMask (cellOf boards cells t (a .cell))) (a .board) ≡ false →
       (answer rule boards cells t a .number ≡ 0) × (tableAfter rule boards cells t a ≡ t)
   unfolding seen
-  drop-not-live code dead = unchanged (rw is-drop clean) (rw (is-drop, set-nothing (asState x .c) (a .board) none nil))
+  drop-not-live code not-live = unchanged (rw is-drop clean) (rw (is-drop, set-nothing (asState x .c) (a .board) none nil))
     where
       x : Cell
       x = cellOf boards cells t (a .cell)
@@ -48,18 +48,18 @@ module _ (rule boards cells : ℕ) (t : Table) (a : Action) (quiet : NoOtherHold
       is-drop = unfold procOf in rw code
 
       nil : asState x .c (a .board) ≡ none
-      nil = nil-is boards x (a .board) .0 dead
+      nil = nil-is boards x (a .board) .0 not-live
 
       clean : asState x .dirty (a .board) ≡ false
       clean =
-          let f = formed rule boards cells (seen boards cells t (a .cell)) a quiet in
+          let f = formed rule boards cells t a quiet in
           let I = sound-exactly (ruleOf rule) boards x .0 (f .3) .1 in
           not-so _ (λ d. inv2-of boards (asState x) (ruleOf rule) I (a .board) (rw is-drop at (f .2)) d nil)
 
   pub release-without-lock : 3 ≤ rule → a .code ≡ 8 → hasBoard (lockMask (cellOf boards cells t (a .cell))) (a .board) ≡ false →
       (answer rule boards cells t a .number ≡ 0) × (tableAfter rule boards cells t a ≡ t)
   unfolding seen
-  release-without-lock late code open-lock = unchanged (rw is-release allowed) (rw (is-release, set-nothing (asState x .lock) (a .board) false (unfold asState in open-lock)))
+  release-without-lock late code not-held = unchanged (rw is-release allowed) (rw (is-release, set-nothing (asState x .lock) (a .board) false (unfold asState in not-held)))
     where
       x : Cell
       x = cellOf boards cells t (a .cell)
@@ -71,9 +71,9 @@ module _ (rule boards cells : ℕ) (t : Table) (a : Action) (quiet : NoOtherHold
       by : (r : ℕ) → r ≤ 4 → 3 ≤ r → a .board < boards → Invariants boards (asState x) (ruleOf r) → Guard boards (asState x) (ruleOf r) (Release (a .board))
       by = unfold ruleOf in by-rule (λ (r : ℕ). 3 ≤ r → a .board < boards → Invariants boards (asState x) (ruleOf r) → Guard boards (asState x) (ruleOf r) (Release (a .board)))
           (λ l m I. absurd (omega arith)) (λ l m I. absurd (omega arith)) (λ l m I. absurd (omega arith)) (λ l m I. tt)
-          (λ l m I. not-so _ (λ d. clash (I .6 (a .board) m d) (unfold asState in open-lock)))
+          (λ l m I. not-so _ (λ d. clash (I .6 (a .board) m d) (unfold asState in not-held)))
 
       allowed : Guard boards (asState x) (ruleOf rule) (Release (a .board))
       allowed =
-          let f = formed rule boards cells (seen boards cells t (a .cell)) a quiet in
+          let f = formed rule boards cells t a quiet in
           by rule (f .0) late (rw is-release at (f .2)) (sound-exactly (ruleOf rule) boards x .0 (f .3) .1)

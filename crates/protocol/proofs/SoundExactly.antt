@@ -1,24 +1,26 @@
 -- A cell is sound exactly when what document 01 adds holds of it, and the handout's invariants of its rule, in the handout's words.
 -- Assumes nothing.
-use mathlib.Core.Path.{_≡_, refl, sym, _∙_}
-use mathlib.Core.Logic.{_≢_, inl, inr, _↔_}
-use mathlib.Core.Bool.{Bool, true, false, cond, not, _&&_, _||_, false≢true}
-use mathlib.Core.Option.{some, none}
+use mathlib.Core.Path.{_≡_, refl}
+use mathlib.Core.Logic.{_≢_, _↔_}
+use mathlib.Core.Bool.{Bool, true, false, not, _&&_, _||_, false≢true}
 use Prim.Native.Nat.{ℕ, _<_, _≤_, _^_}
 use native.Mathlib.Omega.{arith}
-use native.Mathlib.Decide.{ℕ-discrete, decLt}
+use native.Mathlib.Decide.{ℕ-discrete}
 use lib.Dec.{eqb, ltb, leb}
-use borrow.Author.Tests.{eq-eqb, eqb-true, eqb-false, ltb-true, lt-ltb, leb-true, le-leb, not-true}
+use borrow.Author.Tests.{eq-eqb, eqb-true, ltb-true, lt-ltb, leb-true, le-leb, not-true}
+use Rattle.protocol.specs.Names.{ruleNumber}
 use Rattle.protocol.specs.Names.{Rule, IncoherentMemory, GlobalImpl, CurrentCaches, ExclusiveLocks0, ExclusiveLocks}
-use Rattle.protocol.specs.Masks.{hasBoard, hasAnother, lowestBoard}
-use Rattle.protocol.specs.Cell.{Cell, mainValue, copyAt, liveMask, dirtyMask, lockMask, currentValue}
+use Rattle.protocol.specs.Masks.{hasBoard, hasAnother}
+use Rattle.protocol.specs.Cell.{Cell, copyAt, liveMask, dirtyMask, lockMask, currentValue}
 use Rattle.protocol.specs.Soundness.{Condition, conditions, noBitAtPOrAbove, notLiveHolds0, lockMaskIs0, dirtyIsLive, oneDirty, liveIsCurrent, oneLock, lockedIsOnly, dirtyIsLocked}
-use Rattle.protocol.specs.Soundness.{ruleNumber, from, upTo, askedBy, meets, sound}
-use Rattle.protocol.specs.Handout.{Live, IsCurrent, Current, Inv2, Inv3, Inv4, Inv5, Inv6, Inv7, Invariants}
+use Rattle.protocol.specs.Soundness.{from, upTo, askedBy, meets, sound}
+use Rattle.protocol.specs.Handout.{Live, Inv2, Inv3, Inv4, Inv5, Inv6, Inv7, Invariants}
 use Rattle.protocol.specs.AsHandout.{asState, Stands}
-use Rattle.protocol.proofs.Booleans.{clash, not-so, and-left, and-right, and-both, implies, implied, either, every-at, every-of, board-at, board-of}
-use Rattle.protocol.proofs.MaskLaws.{has-none, high-of-lt, lt-of-high, another-false, ones-same, same-ones, has-lowest}
-use Rattle.protocol.proofs.HandoutLaws.{not-nil, one-current}
+use Rattle.protocol.proofs.Booleans.{clash, not-so, and-left, and-right, and-both, implies, implied, either, every-at, every-of, board-at, board-of, boards-imply}
+use Rattle.protocol.proofs.MaskLaws.{high-of-lt, lt-of-high, another-false}
+use Rattle.protocol.proofs.BoundedMasks.{below, one-is}
+use Rattle.protocol.proofs.HandoutLaws.{inv1}
+use Rattle.protocol.proofs.CellAsState.{live-is, current-is}
 
 -- ---- the table of conditions
 
@@ -40,7 +42,7 @@ of-sound r P x s c a = implies (askedBy r c) (meets P x c) (at c) a
     at lockedIsOnly = every-at conditions test 7 noBitAtPOrAbove (omega arith) s
     at dirtyIsLocked = every-at conditions test 8 noBitAtPOrAbove (omega arith) s
 
-sound-of : (r : Rule) (P : ℕ) (x : Cell) → ((c : Condition) → askedBy r c ≡ true → meets P x c ≡ true) → sound r P x ≡ true
+pub sound-of : (r : Rule) (P : ℕ) (x : Cell) → ((c : Condition) → askedBy r c ≡ true → meets P x c ≡ true) → sound r P x ≡ true
 unfolding sound
 sound-of r P x f = every-of conditions (λ (c : Condition). not (askedBy r c) || meets P x c) (λ c. implied (askedBy r c) (meets P x c) (f c))
 
@@ -61,39 +63,9 @@ current-one CurrentCaches a = refl
 current-one ExclusiveLocks0 a = refl
 current-one ExclusiveLocks a = refl
 
--- ---- a cell as a state
+-- ---- each condition in words
 
 module _ (P : ℕ) (x : Cell) where
-  pub live-is : (p : ℕ) → (hasBoard (liveMask x) p ≡ true) ↔ Live P (asState x) p
-  unfolding asState
-  live-is p = ((λ e n. not-nil (copyAt x p) (rw e at n)), λ f. go (hasBoard (liveMask x) p) refl f)
-    where
-      go : (b : Bool) → hasBoard (liveMask x) p ≡ b → (cond (hasBoard (liveMask x) p) (some (copyAt x p)) none ≢ none) → hasBoard (liveMask x) p ≡ true
-      go true e f = e
-      go false e f = absurd (f (rw e))
-
-  pub cache-is : (p : ℕ) → hasBoard (liveMask x) p ≡ true → asState x .c p ≡ some (copyAt x p)
-  unfolding asState
-  cache-is p h = rw h
-
-  -- the current value is the handout's
-  pub is-current : ((p : ℕ) → P ≤ p → hasBoard (dirtyMask x) p ≡ false) → Inv2 P (asState x) → IsCurrent P (asState x) (currentValue x)
-  unfolding asState currentValue
-  is-current none-high i2 = go (eqb (dirtyMask x) 0) refl
-    where
-      low : (p : ℕ) → hasBoard (dirtyMask x) p ≡ true → Dec (p < P) → p < P
-      low p d (yes l) = l
-      low p d (no n) = absurd (clash d (none-high p (omega arith)))
-
-      go : (b : Bool) → eqb (dirtyMask x) 0 ≡ b → IsCurrent P (asState x) (cond b (mainValue x) (copyAt x (lowestBoard (dirtyMask x))))
-      go true e = inl ((λ p l. rw (eqb-true (dirtyMask x) 0 e) (has-none p)), refl)
-      go false e =
-          let d = has-lowest (dirtyMask x) (eqb-false (dirtyMask x) 0 e) in
-          let l = low (lowestBoard (dirtyMask x)) d (decLt (lowestBoard (dirtyMask x)) P) in
-          inr (lowestBoard (dirtyMask x), l, d, cache-is (lowestBoard (dirtyMask x)) (live-is (lowestBoard (dirtyMask x)) .1 (i2 _ l d)))
-
-  -- ---- each condition in words
-
   abbrev pub Words : Condition → Type 0
   Words noBitAtPOrAbove =
       ((p : ℕ) → P ≤ p → hasBoard (liveMask x) p ≡ false)
@@ -107,13 +79,6 @@ module _ (P : ℕ) (x : Cell) where
   Words oneLock = Inv5 P (asState x)
   Words lockedIsOnly = Inv6 P (asState x)
   Words dirtyIsLocked = Inv7 P (asState x)
-
-  below : (m p : ℕ) → ((p : ℕ) → P ≤ p → hasBoard m p ≡ false) → hasBoard m p ≡ true → p < P
-  below m p f h = go (decLt p P)
-    where
-      go : Dec (p < P) → p < P
-      go (yes l) = l
-      go (no n) = absurd (clash h (f p (omega arith)))
 
   bits-is : (meets P x noBitAtPOrAbove ≡ true) ↔ Words noBitAtPOrAbove
   unfolding meets
@@ -149,38 +114,26 @@ module _ (P : ℕ) (x : Cell) where
 
   inv2-is : (meets P x dirtyIsLive ≡ true) ↔ Words dirtyIsLive
   unfolding meets asState
-  inv2-is = (
-    (λ e p l d. live-is p .0 (implies (hasBoard (dirtyMask x) p) (hasBoard (liveMask x) p) (board-at P _ e p l) d)),
-    λ f. board-of P _ (λ p l. implied (hasBoard (dirtyMask x) p) (hasBoard (liveMask x) p) (λ d. live-is p .1 (f p l d))),
-  )
+  inv2-is = let k = boards-imply P (hasBoard (dirtyMask x)) (hasBoard (liveMask x)) in ((λ e p l d. live-is P x p .0 (k .0 e p l d)), λ f. k .1 (λ p l d. live-is P x p .1 (f p l d)))
 
   inv7-is : (meets P x dirtyIsLocked ≡ true) ↔ Words dirtyIsLocked
   unfolding meets asState
-  inv7-is = (
-    (λ e p l. implies (hasBoard (dirtyMask x) p) (hasBoard (lockMask x) p) (board-at P _ e p l)),
-    λ f. board-of P _ (λ p l. implied (hasBoard (dirtyMask x) p) (hasBoard (lockMask x) p) (f p l)),
-  )
+  inv7-is = boards-imply P (hasBoard (dirtyMask x)) (hasBoard (lockMask x))
 
   module _ (bits : Words noBitAtPOrAbove) where
     inv3-is : (meets P x oneDirty ≡ true) ↔ Words oneDirty
     unfolding meets asState
-    inv3-is = (
-      (λ e p q l m d k. ones-same p q (dirtyMask x) (leb-true _ _ e) d k),
-      λ f. le-leb _ _ (same-ones (dirtyMask x) (λ p q d k. f p q (below _ p (bits .1) d) (below _ q (bits .1) k) d k)),
-    )
+    inv3-is = one-is P (dirtyMask x) (bits .1)
 
     inv5-is : (meets P x oneLock ≡ true) ↔ Words oneLock
     unfolding meets asState
-    inv5-is = (
-      (λ e p q l m d k. ones-same p q (lockMask x) (leb-true _ _ e) d k),
-      λ f. le-leb _ _ (same-ones (lockMask x) (λ p q d k. f p q (below _ p (bits .2) d) (below _ q (bits .2) k) d k)),
-    )
+    inv5-is = one-is P (lockMask x) (bits .2)
 
     -- no other board is live
     pub only-is : (p : ℕ) → (hasAnother (liveMask x) p ≡ false) ↔ ((q : ℕ) → q < P → Live P (asState x) q → q ≡ p)
     only-is p = (
-      (λ e q l y. into q (another-false (liveMask x) p .0 e q) (live-is q .1 y) (ℕ-discrete q p)),
-      λ f. another-false (liveMask x) p .1 (λ q n. not-so _ (λ h. n (f q (below _ q (bits .0) h) (live-is q .0 h)))),
+      (λ e q l y. into q (another-false (liveMask x) p .0 e q) (live-is P x q .1 y) (ℕ-discrete q p)),
+      λ f. another-false (liveMask x) p .1 (λ q n. not-so _ (λ h. n (f q (below P _ q (bits .0) h) (live-is P x q .0 h)))),
     )
       where
         into : (q : ℕ) → (q ≢ p → hasBoard (liveMask x) q ≡ false) → hasBoard (liveMask x) q ≡ true → Dec (q ≡ p) → q ≡ p
@@ -195,62 +148,44 @@ module _ (P : ℕ) (x : Cell) where
     )
 
     module _ (i2 : Inv2 P (asState x)) (i3 : Inv3 P (asState x)) where
-      -- a live copy is the current value exactly when the handout calls it current
-      pub current-is : (p : ℕ) → hasBoard (liveMask x) p ≡ true → (copyAt x p ≡ currentValue x) ↔ Current P (asState x) p
-      current-is p h = (
-        (λ e. (copyAt x p, cache-is p h, rw e (is-current (bits .1) i2))),
-        λ k. let e = sym (cache-is p h) ∙ k .1 in
-            let d : copyAt x p ≡ k .0 = cc in
-            d ∙ one-current P (asState x) i3 (k .0) (currentValue x) (k .2) (is-current (bits .1) i2),
-      )
-
       inv4-is : (meets P x liveIsCurrent ≡ true) ↔ Words liveIsCurrent
       unfolding meets
       inv4-is = (
-        (λ e p l y. let h = live-is p .1 y in
-            current-is p h .0 (eqb-true _ _ (implies (hasBoard (liveMask x) p) (eqb (copyAt x p) (currentValue x)) (board-at P _ e p l) h))),
-        λ f. board-of P _ (λ p l. implied (hasBoard (liveMask x) p) (eqb (copyAt x p) (currentValue x)) (λ h. eq-eqb _ _ (current-is p h .1 (f p l (live-is p .0 h))))),
+        (λ e p l y. let h = live-is P x p .1 y in
+            current-is P x (bits .1) i2 i3 p h .0 (eqb-true _ _ (implies (hasBoard (liveMask x) p) (eqb (copyAt x p) (currentValue x)) (board-at P _ e p l) h))),
+        λ f. board-of P _ (λ p l. implied (hasBoard (liveMask x) p) (eqb (copyAt x p) (currentValue x)) (λ h. eq-eqb _ _ (current-is P x (bits .1) i2 i3 p h .1 (f p l (live-is P x p .0 h))))),
       )
 
 -- ---- all conditions of a rule
 
+each-says : (r : Rule) (P : ℕ) (x : Cell) → Words P x noBitAtPOrAbove → Inv2 P (asState x) → (askedBy r oneDirty ≡ true → Inv3 P (asState x)) →
+    (c : Condition) → askedBy r c ≡ true → (meets P x c ≡ true) ↔ Words P x c
+each-says r P x b i2 i3 noBitAtPOrAbove a = bits-is P x
+each-says r P x b i2 i3 notLiveHolds0 a = blank-is P x
+each-says r P x b i2 i3 lockMaskIs0 a = unlocked-is P x
+each-says r P x b i2 i3 dirtyIsLive a = inv2-is P x
+each-says r P x b i2 i3 oneDirty a = inv3-is P x b
+each-says r P x b i2 i3 liveIsCurrent a = inv4-is P x b i2 (i3 (current-one r a))
+each-says r P x b i2 i3 oneLock a = inv5-is P x b
+each-says r P x b i2 i3 lockedIsOnly a = inv6-is P x b
+each-says r P x b i2 i3 dirtyIsLocked a = inv7-is P x
+
 in-words : (r : Rule) (P : ℕ) (x : Cell) → ((c : Condition) → askedBy r c ≡ true → meets P x c ≡ true) → (c : Condition) → askedBy r c ≡ true → Words P x c
-in-words r P x F c a = go c a (bits-is P x .0 (F noBitAtPOrAbove (always r .0)))
-  where
-    go : (c : Condition) → askedBy r c ≡ true → Words P x noBitAtPOrAbove → Words P x c
-    go noBitAtPOrAbove a b = b
-    go notLiveHolds0 a b = blank-is P x .0 (F notLiveHolds0 a)
-    go lockMaskIs0 a b = unlocked-is P x .0 (F lockMaskIs0 a)
-    go dirtyIsLive a b = inv2-is P x .0 (F dirtyIsLive a)
-    go oneDirty a b = inv3-is P x b .0 (F oneDirty a)
-    go liveIsCurrent a b =
-        inv4-is P x b (inv2-is P x .0 (F dirtyIsLive (always r .2))) (inv3-is P x b .0 (F oneDirty (current-one r a))) .0 (F liveIsCurrent a)
-    go oneLock a b = inv5-is P x b .0 (F oneLock a)
-    go lockedIsOnly a b = inv6-is P x b .0 (F lockedIsOnly a)
-    go dirtyIsLocked a b = inv7-is P x .0 (F dirtyIsLocked a)
+in-words r P x F c a =
+    let b = bits-is P x .0 (F noBitAtPOrAbove (always r .0)) in
+    each-says r P x b (inv2-is P x .0 (F dirtyIsLive (always r .2))) (λ k. inv3-is P x b .0 (F oneDirty k)) c a .0 (F c a)
 
 in-bits : (r : Rule) (P : ℕ) (x : Cell) → ((c : Condition) → askedBy r c ≡ true → Words P x c) → (c : Condition) → askedBy r c ≡ true → meets P x c ≡ true
-in-bits r P x W c a = go c a (W noBitAtPOrAbove (always r .0))
-  where
-    go : (c : Condition) → askedBy r c ≡ true → Words P x noBitAtPOrAbove → meets P x c ≡ true
-    go noBitAtPOrAbove a b = bits-is P x .1 b
-    go notLiveHolds0 a b = blank-is P x .1 (W notLiveHolds0 a)
-    go lockMaskIs0 a b = unlocked-is P x .1 (W lockMaskIs0 a)
-    go dirtyIsLive a b = inv2-is P x .1 (W dirtyIsLive a)
-    go oneDirty a b = inv3-is P x b .1 (W oneDirty a)
-    go liveIsCurrent a b = inv4-is P x b (W dirtyIsLive (always r .2)) (W oneDirty (current-one r a)) .1 (W liveIsCurrent a)
-    go oneLock a b = inv5-is P x b .1 (W oneLock a)
-    go lockedIsOnly a b = inv6-is P x b .1 (W lockedIsOnly a)
-    go dirtyIsLocked a b = inv7-is P x .1 (W dirtyIsLocked a)
+in-bits r P x W c a = each-says r P x (W noBitAtPOrAbove (always r .0)) (W dirtyIsLive (always r .2)) (W oneDirty) c a .1 (W c a)
 
 -- the handout's invariants of a rule are those that document 01 asks of it
 invariants-asked : (r : Rule) (P : ℕ) (x : Cell) → ((c : Condition) → askedBy r c ≡ true → Words P x c) → Invariants P (asState x) r
 unfolding askedBy ruleNumber from upTo
-invariants-asked IncoherentMemory P x W = ((λ p l. (_, refl)), W dirtyIsLive refl)
-invariants-asked GlobalImpl P x W = ((λ p l. (_, refl)), W dirtyIsLive refl, W oneDirty refl)
-invariants-asked CurrentCaches P x W = ((λ p l. (_, refl)), W dirtyIsLive refl, W oneDirty refl, W liveIsCurrent refl)
-invariants-asked ExclusiveLocks0 P x W = ((λ p l. (_, refl)), W dirtyIsLive refl, W oneDirty refl, W liveIsCurrent refl, W oneLock refl, W lockedIsOnly refl)
-invariants-asked ExclusiveLocks P x W = ((λ p l. (_, refl)), W dirtyIsLive refl, W oneDirty refl, W liveIsCurrent refl, W oneLock refl, W lockedIsOnly refl, W dirtyIsLocked refl)
+invariants-asked IncoherentMemory P x W = (inv1 P (asState x), W dirtyIsLive refl)
+invariants-asked GlobalImpl P x W = (inv1 P (asState x), W dirtyIsLive refl, W oneDirty refl)
+invariants-asked CurrentCaches P x W = (inv1 P (asState x), W dirtyIsLive refl, W oneDirty refl, W liveIsCurrent refl)
+invariants-asked ExclusiveLocks0 P x W = (inv1 P (asState x), W dirtyIsLive refl, W oneDirty refl, W liveIsCurrent refl, W oneLock refl, W lockedIsOnly refl)
+invariants-asked ExclusiveLocks P x W = (inv1 P (asState x), W dirtyIsLive refl, W oneDirty refl, W liveIsCurrent refl, W oneLock refl, W lockedIsOnly refl, W dirtyIsLocked refl)
 
 unlocked-asked : (r : Rule) → askedBy r lockMaskIs0 ≡ true → ruleNumber r ≤ 2
 unfolding askedBy from upTo
@@ -262,7 +197,7 @@ asked-unlocked r l = and-both (leb 0 (ruleNumber r)) (leb (ruleNumber r) 2) (le-
 
 asked-invariants : (r : Rule) (P : ℕ) (x : Cell) → Stands r P x → Invariants P (asState x) r → (c : Condition) → askedBy r c ≡ true → Words P x c
 unfolding askedBy ruleNumber from upTo
-asked-invariants r P x S I noBitAtPOrAbove a = (S .noLive, S .noDirty, S .noLock)
+asked-invariants r P x S I noBitAtPOrAbove a = (S .noLiveAtPOrAbove, S .noDirtyAtPOrAbove, S .noLockAtPOrAbove)
 asked-invariants r P x S I notLiveHolds0 a = S .notLiveHolds0
 asked-invariants r P x S I lockMaskIs0 a = S .lockMaskIs0 (unlocked-asked r a)
 asked-invariants IncoherentMemory P x S I dirtyIsLive a = I .1
@@ -303,5 +238,5 @@ sound-exactly r P x = (into, λ f. sound-of r P x (in-bits r P x (asked-invarian
     into s =
         let W = in-words r P x (of-sound r P x s) in
         let b = W noBitAtPOrAbove (always r .0) in
-        let S : Stands r P x = record { noLive = b .0; noDirty = b .1; noLock = b .2; notLiveHolds0 = W notLiveHolds0 (always r .1); lockMaskIs0 = λ l. W lockMaskIs0 (asked-unlocked r l) } in
+        let S : Stands r P x = record { noLiveAtPOrAbove = b .0; noDirtyAtPOrAbove = b .1; noLockAtPOrAbove = b .2; notLiveHolds0 = W notLiveHolds0 (always r .1); lockMaskIs0 = λ l. W lockMaskIs0 (asked-unlocked r l) } in
         (S, invariants-asked r P x W)

@@ -15,12 +15,12 @@ use Rattle.protocol.specs.Cell.{Cell, cellOf}
 use Rattle.protocol.specs.Soundness.{sound}
 use Rattle.protocol.specs.First.{when, NoneHolds}
 use Rattle.protocol.specs.Guards.{Test, notLive, isDirty, notDirty, dirtyElsewhere, onlyDirtyElsewhere, anotherCopy, lockedByAnother, lockHeld, lockNotHeld, notCurrent, stillLive}
-use Rattle.protocol.specs.Guards.{numberOf, stands, tests, guard}
+use Rattle.protocol.specs.Guards.{numberOf, refuses, tests, guard}
 use Rattle.protocol.specs.Effects.{effect, valueOf, storesIn}
 use Rattle.protocol.specs.Step.{Seen, seen, refusals, answerTo, answer, tableAfter}
 use Rattle.protocol.specs.Handout.{Guard}
-use Rattle.protocol.specs.AsHandout.{asState, inHandout, NoOtherHolds}
-use Rattle.protocol.proofs.FirstLaws.{Refuse, first-accepted, first-none}
+use Rattle.protocol.specs.AsHandout.{asState}
+use Rattle.protocol.proofs.FirstLaws.{Refuse, Without, first-accepted, first-none}
 use Rattle.protocol.proofs.HandoutLaws.{Among}
 use Rattle.protocol.proofs.PlaceLaws.{by-cell}
 use Rattle.protocol.proofs.CellLaws.{stores, sizes-of, same-sizes, length-stores, stores-here, stores-there}
@@ -45,9 +45,14 @@ guard-number (lockNotHeld p) = omega arith
 guard-number (notCurrent p) = omega arith
 guard-number (stillLive p) = omega arith
 
-guard-refuses : (x : Cell) (ts : List Test) → Refuse (map (λ test. when (numberOf test) (stands x test)) ts)
+guard-refuses : (x : Cell) (ts : List Test) → Refuse (map (λ test. when (numberOf test) (refuses x test)) ts)
 guard-refuses x [] = tt
 guard-refuses x (t ∷ ts) = let n : numberOf t ≢ 0 = omega (arith, guard-number t) in (n, refl, guard-refuses x ts)
+
+-- no test of a guard has a number below 8
+pub guard-without : (n : ℕ) → n < 8 → (x : Cell) (ts : List Test) → Without n (map (λ test. when (numberOf test) (refuses x test)) ts)
+guard-without n l x [] = tt
+guard-without n l x (t ∷ ts) = let d : numberOf t ≢ n = omega (arith, guard-number t) in (d, guard-without n l x ts)
 
 pub all-refuse : (rule boards cells : ℕ) (s : Seen) (a : Action) → Refuse (refusals rule boards cells s a)
 unfolding refusals guard
@@ -58,14 +63,14 @@ all-refuse rule boards cells s a =
 
 pub record Accepted (rule boards cells : ℕ) (s : Seen) (a : Action) : Type 0 where
   pub sizes : s .sizes ≡ true
-  pub coded : a .code ≤ 8
+  pub codeFits : a .code ≤ 8
   pub among : Among boards (procOf a)
   pub inside : a .cell < cells
   pub sounds : sound (ruleOf rule) boards (s .cell) ≡ true
   pub guarded : Guard boards (asState (s .cell)) (ruleOf rule) (procOf a)
 
 module _ (rule boards cells : ℕ) (s : Seen) (a : Action) where
-  pub none-accepts : NoneHolds (refusals rule boards cells s a) → Accepted rule boards cells s a
+  none-accepts : NoneHolds (refusals rule boards cells s a) → Accepted rule boards cells s a
   unfolding refusals
   none-accepts (n1, (n2, (n3, (n4, (n5, (n6, (n7, g))))))) =
       let r = ltb-false 4 rule n2 in
@@ -75,19 +80,12 @@ module _ (rule boards cells : ℕ) (s : Seen) (a : Action) where
       let S = sound-exactly (ruleOf rule) boards (s .cell) .0 k in
       record {
         sizes = not-false _ n1;
-        coded = c;
+        codeFits = c;
         among = l;
         inside = leb-false cells (a .cell) n6;
         sounds = k;
         guarded = guard-exactly boards (s .cell) (ruleOf rule) (procOf a) l (S .0) (S .1) .0 (has-exactly rule a r c .0 n4, g);
       }
-
-  -- what holds where no refusal does that the handout does not know of
-  pub formed : NoOtherHolds (refusals rule boards cells s a) → (rule ≤ 4) × (a .code ≤ 8) × Among boards (procOf a) × (sound (ruleOf rule) boards (s .cell) ≡ true)
-  unfolding refusals inHandout
-  formed (n1, (n2, (n3, (n4, (n5, (n6, (n7, g))))))) =
-      let c = code-fits a (n3 refl) in
-      (ltb-false 4 rule (n2 refl), c, named-among boards a c (n5 refl), not-false _ (n7 refl))
 
   pub accepted : answerTo rule boards cells s a .number ≡ 0 → Accepted rule boards cells s a
   unfolding answerTo

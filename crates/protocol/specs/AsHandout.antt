@@ -5,10 +5,10 @@ use mathlib.Core.List.{List, [], _∷_}
 use mathlib.Core.Option.{some, none}
 use Prim.Native.Nat.{ℕ, _<_, _≤_}
 use lib.Dec.{eqb, leb}
+use Rattle.protocol.specs.Names.{ruleNumber}
 use Rattle.protocol.specs.Names.{Rule}
 use Rattle.protocol.specs.Masks.{hasBoard}
 use Rattle.protocol.specs.Cell.{Cell, mainValue, copyAt, liveMask, dirtyMask, lockMask}
-use Rattle.protocol.specs.Soundness.{ruleNumber}
 use Rattle.protocol.specs.First.{Refusal}
 use Rattle.protocol.specs.Runs.{Line, acceptedRead, acceptedWrite}
 use Rattle.protocol.specs.Handout.{State}
@@ -26,9 +26,9 @@ asState x = record {
 -- what document 01 asks of a sound cell beside the handout's invariants
 pub record Stands (rule : Rule) (boards : ℕ) (x : Cell) : Type 0 where
   -- no mask bit at P or above
-  pub noLive : (p : ℕ) → boards ≤ p → hasBoard (liveMask x) p ≡ false
-  pub noDirty : (p : ℕ) → boards ≤ p → hasBoard (dirtyMask x) p ≡ false
-  pub noLock : (p : ℕ) → boards ≤ p → hasBoard (lockMask x) p ≡ false
+  pub noLiveAtPOrAbove : (p : ℕ) → boards ≤ p → hasBoard (liveMask x) p ≡ false
+  pub noDirtyAtPOrAbove : (p : ℕ) → boards ≤ p → hasBoard (dirtyMask x) p ≡ false
+  pub noLockAtPOrAbove : (p : ℕ) → boards ≤ p → hasBoard (lockMask x) p ≡ false
   -- copies that are not live hold 0
   pub notLiveHolds0 : (p : ℕ) → p < boards → hasBoard (liveMask x) p ≡ false → copyAt x p ≡ 0
   -- lock mask is 0, rules 0 to 2 only

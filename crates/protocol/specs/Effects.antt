@@ -6,7 +6,7 @@ use lib.Dec.{eqb}
 use lib.ListN.{set}
 use Rattle.protocol.specs.Names.{Rule, Proc, Read, Write, Barrier, MtoC, CtoM, CtoC, Drop, Acquire, Release}
 use Rattle.protocol.specs.Masks.{withBoard, withoutBoard}
-use Rattle.protocol.specs.Slices.{Slice, main, copies, masks, Table, Places, cellByCell}
+use Rattle.protocol.specs.Slices.{Slice, main, copies, masks, sliceNumber, Table, Places, cellByCell}
 use Rattle.protocol.specs.Cell.{Cell, mainValue, copyAt, liveMask, dirtyMask, lockMask}
 
 -- the k-th number of the cell in a slice becomes the value
@@ -51,11 +51,6 @@ valueOf x (CtoC p q) = 0
 valueOf x (Drop p) = 0
 valueOf x (Acquire p) = 0
 valueOf x (Release p) = 0
-
-unfoldable pub sliceNumber : Slice → ℕ
-sliceNumber main = 0
-sliceNumber copies = 1
-sliceNumber masks = 2
 
 -- stores at a cell of a table, by an arrangement
 unfoldable pub storeBy : Places → (cell : ℕ) → Table → Store → Table

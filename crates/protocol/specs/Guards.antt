@@ -29,20 +29,20 @@ numberOf (notCurrent p) = 15
 numberOf (stillLive p) = 16
 
 -- true: the test refuses
-unfoldable pub stands : Cell → Test → Bool
-stands x (notLive p) = not (hasBoard (liveMask x) p)
-stands x (isDirty p) = hasBoard (dirtyMask x) p
-stands x (notDirty p) = not (hasBoard (dirtyMask x) p)
-stands x (dirtyElsewhere p) = hasAnother (dirtyMask x) p
+unfoldable pub refuses : Cell → Test → Bool
+refuses x (notLive p) = not (hasBoard (liveMask x) p)
+refuses x (isDirty p) = hasBoard (dirtyMask x) p
+refuses x (notDirty p) = not (hasBoard (dirtyMask x) p)
+refuses x (dirtyElsewhere p) = hasAnother (dirtyMask x) p
 -- "p not dirty and another is"
-stands x (onlyDirtyElsewhere p) = not (hasBoard (dirtyMask x) p) && hasAnother (dirtyMask x) p
-stands x (anotherCopy p) = hasAnother (liveMask x) p
-stands x (lockedByAnother p) = hasAnother (lockMask x) p
+refuses x (onlyDirtyElsewhere p) = not (hasBoard (dirtyMask x) p) && hasAnother (dirtyMask x) p
+refuses x (anotherCopy p) = hasAnother (liveMask x) p
+refuses x (lockedByAnother p) = hasAnother (lockMask x) p
 -- "any lock held, p's too"
-stands x lockHeld = not (eqb (lockMask x) 0)
-stands x (lockNotHeld p) = not (hasBoard (lockMask x) p)
-stands x (notCurrent p) = not (eqb (copyAt x p) (currentValue x))
-stands x (stillLive p) = hasBoard (liveMask x) p
+refuses x lockHeld = not (eqb (lockMask x) 0)
+refuses x (lockNotHeld p) = not (hasBoard (lockMask x) p)
+refuses x (notCurrent p) = not (eqb (copyAt x p) (currentValue x))
+refuses x (stillLive p) = hasBoard (liveMask x) p
 
 unfoldable pub tests : Rule → Proc → List Test
 tests IncoherentMemory (Read p) = notLive p ∷ []
@@ -95,4 +95,4 @@ tests ExclusiveLocks (Release p) = isDirty p ∷ []
 
 -- the refusals of an action's guard
 unfoldable pub guard : Cell → Rule → Proc → List Refusal
-guard x rule a = map (λ test. when (numberOf test) (stands x test)) (tests rule a)
+guard x rule a = map (λ test. when (numberOf test) (refuses x test)) (tests rule a)

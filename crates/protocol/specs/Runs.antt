@@ -21,9 +21,13 @@ pub record Line : Type 0 where
   pub action : Action
   pub told : Answer
 
+-- the line that an action adds
+abbrev pub lineOf : (rule boards cells : ℕ) → Table → Action → Line
+lineOf rule boards cells t a = record { action = a; told = answer rule boards cells t a }
+
 unfoldable pub log : (rule boards cells : ℕ) → Table → List Action → List Line
 log rule boards cells t [] = []
-log rule boards cells t (a ∷ rest) = record { action = a; told = answer rule boards cells t a } ∷ log rule boards cells (tableAfter rule boards cells t a) rest
+log rule boards cells t (a ∷ rest) = lineOf rule boards cells t a ∷ log rule boards cells (tableAfter rule boards cells t a) rest
 
 unfoldable pub isRead : (code : ℕ) → Bool
 isRead code = eqb code 0
@@ -37,10 +41,14 @@ acceptedRead l = eqb (l .told .number) 0 && isRead (l .action .code)
 unfoldable pub acceptedWrite : Line → Bool
 acceptedWrite l = eqb (l .told .number) 0 && isWrite (l .action .code)
 
+-- what a cell was last written, after one more line; v before
+abbrev pub writtenAfter : (cell v : ℕ) → Line → ℕ
+writtenAfter cell v l = cond (acceptedWrite l && eqb (l .action .cell) cell) (l .action .value) v
+
 -- the latest accepted write to a cell by any board; the starting value where there is none. It looks at actions and answers alone.
 unfoldable pub latestWrite : (cell starting : ℕ) → List Line → ℕ
 latestWrite cell starting [] = starting
-latestWrite cell starting (l ∷ ls) = latestWrite cell (cond (acceptedWrite l && eqb (l .action .cell) cell) (l .action .value) starting) ls
+latestWrite cell starting (l ∷ ls) = latestWrite cell (writtenAfter cell starting l) ls
 
 -- the members of a list that name a cell, in their order
 unfoldable pub naming {ℓ} : {A : Type ℓ} → (cellNumber : A → ℕ) → (cell : ℕ) → List A → List A
