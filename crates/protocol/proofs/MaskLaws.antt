@@ -17,18 +17,18 @@ use Rattle.protocol.proofs.Booleans.{not-so}
 by-one : (m : ℕ) → m / 1 ≡ m
 by-one m = omega arith
 
-has-zero : (m : ℕ) → hasBoard m 0 ≡ eqb (m % 2) 1
+pub has-zero : (m : ℕ) → hasBoard m 0 ≡ eqb (m % 2) 1
 unfolding hasBoard
 has-zero m = rw (by-one m)
 
-has-suc : (m p : ℕ) → hasBoard m (suc p) ≡ hasBoard (m / 2) p
+pub has-suc : (m p : ℕ) → hasBoard m (suc p) ≡ hasBoard (m / 2) p
 unfolding hasBoard
 has-suc m p = rw (div-div-eq-div-mul m 2 (2 ^ p), twice)
   where
     twice : 2 ^ suc p ≡ 2 * 2 ^ p
     twice = omega arith
 
-with-zero : (m : ℕ) → withBoard m 0 ≡ m / 2 * 2 + 1
+pub with-zero : (m : ℕ) → withBoard m 0 ≡ m / 2 * 2 + 1
 unfolding withBoard
 with-zero m = rw (has-zero m) (go (eqb (m % 2) 1) refl)
   where
@@ -36,7 +36,7 @@ with-zero m = rw (has-zero m) (go (eqb (m % 2) 1) refl)
     go true e = omega (arith, eqb-true (m % 2) 1 e)
     go false e = let n : m % 2 ≢ 1 = eqb-false (m % 2) 1 e in omega arith
 
-with-suc : (m p : ℕ) → withBoard m (suc p) ≡ withBoard (m / 2) p * 2 + m % 2
+pub with-suc : (m p : ℕ) → withBoard m (suc p) ≡ withBoard (m / 2) p * 2 + m % 2
 unfolding withBoard
 with-suc m p = rw (has-suc m p) (go (hasBoard (m / 2) p))
   where
@@ -44,7 +44,7 @@ with-suc m p = rw (has-suc m p) (go (hasBoard (m / 2) p))
     go true = omega arith
     go false = omega arith
 
-without-zero : (m : ℕ) → withoutBoard m 0 ≡ m / 2 * 2
+pub without-zero : (m : ℕ) → withoutBoard m 0 ≡ m / 2 * 2
 unfolding withoutBoard
 without-zero m = rw (has-zero m) (go (eqb (m % 2) 1) refl)
   where
@@ -57,7 +57,7 @@ has-le : (m p : ℕ) → hasBoard m p ≡ true → 2 ^ p ≤ m
 has-le m zero e = let d = eqb-true (m % 2) 1 (rw (has-zero m) at e) in omega arith
 has-le m (suc p) e = omega (arith, has-le (m / 2) p (rw (has-suc m p) at e))
 
-without-suc : (m p : ℕ) → withoutBoard m (suc p) ≡ withoutBoard (m / 2) p * 2 + m % 2
+pub without-suc : (m p : ℕ) → withoutBoard m (suc p) ≡ withoutBoard (m / 2) p * 2 + m % 2
 unfolding withoutBoard
 without-suc m p = rw (has-suc m p) (go (hasBoard (m / 2) p) refl)
   where

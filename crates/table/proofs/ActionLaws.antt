@@ -1,0 +1,116 @@
+-- What the number of an answer settles for the code: the places of an accepted action, and the whole promise of a step. Assumes nothing.
+use mathlib.Core.Path.{_≡_, sym, ap, _∙_}
+use mathlib.Core.Logic.{_≢_, inl, inr}
+use mathlib.Core.Bool.{true, false, not}
+use mathlib.Core.List.{List}
+use Prim.Native.Nat.{ℕ, _+_, _*_, _^_, _<_, _≤_}
+use lib.ListN.{getD}
+use native.Mathlib.Omega.{arith}
+use native.Mathlib.Decide.{ℕ-discrete, decLt}
+use lib.Dec.{eqb}
+use borrow.Author.Tests.{leb-false, not-false}
+use Rattle.protocol.specs.declared.Action.{Action}
+use Rattle.protocol.specs.Names.{ruleOf}
+use Rattle.protocol.specs.Slices.{Table, tableOf, main, copies, masks, sizesGood}
+use Rattle.protocol.specs.Cell.{Cell, cellOf}
+use Rattle.protocol.specs.Soundness.{sound}
+use Rattle.protocol.specs.Step.{malformed, missing, offBoard, seen, refusals, answer, tableAfter}
+use Rattle.protocol.proofs.Booleans.{clash}
+use Rattle.protocol.proofs.InWords.{malformed-exactly, offBoard-exactly}
+use Rattle.protocol.proofs.NumberLaws.{code-fits}
+use Rattle.protocol.proofs.StepLaws.{accepted-value}
+use Rattle.protocol.proofs.Demand1.{accepted-exactly, refused-changes-nothing}
+use Rattle.protocol.proofs.RefusalOrder.{answers-7, answers-guard}
+use Rattle.table.specs.Statements.{Steps}
+use Rattle.table.specs.Code.{Ready, Room, MasksAt, currentAt, GuardGives, Performs}
+use Rattle.table.proofs.ReadyLaws.{ready, room, copy-is, as-live, as-dirty, as-lock, current-is}
+use Rattle.table.proofs.SoundLaws.{sound-below}
+
+-- the boards of an action that is well formed and on the table: an unused `to` is 0
+pub boards-in : (boards : ℕ) (a : Action) → 1 ≤ boards → malformed a ≡ false → offBoard boards a ≡ false → (a .board < boards) × (a .to < boards)
+boards-in boards a some f o = (home (decLt (a .board) boards), there (ℕ-discrete (a .code) 5) (ℕ-discrete (a .to) 0) (decLt (a .to) boards))
+  where
+    home : Dec (a .board < boards) → a .board < boards
+    home (yes l) = l
+    home (no n) = absurd (clash (offBoard-exactly boards a .1 (inl (omega arith))) o)
+
+    there : Dec (a .code ≡ 5) → Dec (a .to ≡ 0) → Dec (a .to < boards) → a .to < boards
+    there c z (yes l) = l
+    there (yes c) z (no n) = absurd (clash (offBoard-exactly boards a .1 (inr (c, omega arith))) o)
+    there (no c) (yes z) (no n) = absurd (n (omega arith))
+    there (no c) (no z) (no n) = absurd (clash (malformed-exactly a .1 (inl (inr (c, z)))) f)
+
+module _ (rule boards cells : ℕ) (m k w : List ℕ) (a : Action) where
+  abbrev before : Table
+  before = tableOf m k w
+
+  -- accepted: the places that the action uses
+  pub accepted-room : answer rule boards cells before a .number ≡ 0 → Room boards cells (a .cell) (a .board) (a .to) m k w × (a .code ≤ 8)
+  unfolding refusals seen
+  accepted-room e =
+      let n = accepted-exactly rule boards cells before a .0 e in
+      let y = ready boards cells m k w (not-false _ (n .0)) (a .cell) (leb-false cells (a .cell) (n .1 .1 .1 .1 .1 .0)) in
+      let b = boards-in boards a (y .some-board) (n .1 .1 .0) (n .1 .1 .1 .1 .0) in
+      (room boards cells (a .cell) m k w y (a .board) (a .to) (b .0) (b .1), code-fits a (n .1 .1 .0))
+
+  -- refused: the answer, and nothing changed
+  pub stopped : (n : ℕ) → n ≡ answer rule boards cells before a .number → n ≢ 0 → Steps boards cells m k w rule a (record { number = n; value = 0 }) m k w
+  stopped n e h =
+      let f = refused-changes-nothing rule boards cells before a (λ z. h (e ∙ z)) in
+      record {
+        number = e;
+        value = sym (f .1);
+        slices = record {
+          holds-main = ap (λ (t : Table). t main) (sym (f .0));
+          holds-copies = ap (λ (t : Table). t copies) (sym (f .0));
+          holds-masks = ap (λ (t : Table). t masks) (sym (f .0));
+        };
+      }
+
+  -- accepted: the action's value, and its effect stored
+  pub went : (n r : ℕ) (m′ k′ w′ : List ℕ) → n ≡ answer rule boards cells before a .number → n ≡ 0 → Performs boards cells m k w a r m′ k′ w′ →
+      Steps boards cells m k w rule a (record { number = n; value = r }) m′ k′ w′
+  unfolding tableAfter answer seen
+  went n r m′ k′ w′ e z p =
+      let ok : answer rule boards cells before a .number ≡ 0 = sym e ∙ z in
+      record {
+        number = e;
+        value = p .value ∙ sym (accepted-value rule boards cells (seen boards cells before (a .cell)) a ok);
+        slices = rw ok (p .stored (ruleOf rule));
+      }
+
+-- ---- past the sixth refusal
+
+pub record Cleared (rule boards cells : ℕ) (m k w : List ℕ) (a : Action) : Type 0 where
+  pub sizes : sizesGood boards cells (tableOf m k w) ≡ true
+  pub ruled : rule ≤ 4
+  pub formed : malformed a ≡ false
+  pub there : missing rule (a .code) ≡ false
+  pub boarded : offBoard boards a ≡ false
+  pub inside : a .cell < cells
+
+module _ (rule boards cells : ℕ) (m k w : List ℕ) (a : Action) (c : Cleared rule boards cells m k w a) where
+  abbrev here : Cell
+  here = cellOf boards cells (tableOf m k w) (a .cell)
+
+  pub cleared-ready : Ready boards cells (a .cell) m k w
+  cleared-ready = ready boards cells m k w (c .sizes) (a .cell) (c .inside)
+
+  pub cleared-boards : (a .board < boards) × (a .to < boards)
+  cleared-boards = boards-in boards a (cleared-ready .some-board) (c .formed) (c .boarded)
+
+  pub cleared-7 : sound (ruleOf rule) boards here ≡ false → 7 ≡ answer rule boards cells (tableOf m k w) a .number
+  cleared-7 s = sym (answers-7 rule boards cells (tableOf m k w) a .1 (c .sizes, c .ruled, c .formed, c .there, c .boarded, c .inside, s))
+
+  module _ (s : sound (ruleOf rule) boards here ≡ true) (live dirty lock : ℕ) (at : MasksAt w (a .cell) live dirty lock) where
+    pub dirty-below : dirty < 2 ^ boards
+    dirty-below = sound-below rule boards cells (a .cell) m k w (c .ruled) cleared-ready live dirty lock at s
+
+    -- the guard, on what the code has read of the cell
+    pub cleared-guard : (now n : ℕ) → now ≡ currentAt boards (a .cell) dirty m k →
+        GuardGives rule live dirty lock (not (eqb (getD k (a .cell * boards + a .board) 0) now)) a n → n ≡ answer rule boards cells (tableOf m k w) a .number
+    cleared-guard now n z g =
+        let y = cleared-ready in
+        g here (as-live boards cells (a .cell) m k w y live dirty lock at) (as-dirty boards cells (a .cell) m k w y live dirty lock at) (as-lock boards cells (a .cell) m k w y live dirty lock at)
+        (rw (copy-is boards cells (a .cell) m k w y (a .board) (cleared-boards .0), current-is boards cells (a .cell) m k w y live dirty lock at dirty-below, ← z))
+        ∙ sym (answers-guard rule boards cells (tableOf m k w) a (c .sizes, c .ruled, c .formed, c .there, c .boarded, c .inside, s))

@@ -1,0 +1,67 @@
+-- The whole-table check as its loops go, and what each way out has to show. Assumes nothing.
+use mathlib.Core.Path.{_≡_, refl, sym, ap, _∙_}
+use mathlib.Core.Bool.{true, false, not}
+use mathlib.Core.List.{List}
+use mathlib.Core.Option.{Option, some, none}
+use Prim.Native.Nat.{ℕ, suc, _+_, _-_, _<_, _≤_}
+use native.Mathlib.Omega.{arith}
+use Rattle.protocol.specs.Names.{ruleOf}
+use Rattle.protocol.specs.Slices.{tableOf, sizesGood}
+use Rattle.protocol.specs.Cell.{cellOf}
+use Rattle.protocol.specs.Soundness.{sound}
+use Rattle.protocol.specs.Check.{lowestFrom, lowestUnsound}
+use Rattle.protocol.proofs.CheckExactly.{check-1, check-2, check-accepted}
+use Rattle.table.specs.declared.Checked.{Checked}
+use Rattle.table.specs.declared.Checked.the-variants.{Refused}
+use Rattle.table.specs.Statements.{numberOf, foundOf, Checks}
+
+module _ (rule boards cells : ℕ) (m k w : List ℕ) where
+  -- what is left to find, from a cell on
+  abbrev pub leftFrom : (cell : ℕ) → Option ℕ
+  leftFrom cell = lowestFrom (λ c. not (sound (ruleOf rule) boards (cellOf boards cells (tableOf m k w) c))) cell (cells - cell)
+
+  one-more : (cell : ℕ) → cell < cells → cells - cell ≡ suc (cells - (cell + 1))
+  one-more cell l = omega arith
+
+  next-cell : (cell : ℕ) → suc cell ≡ cell + 1
+  next-cell cell = omega arith
+
+  pub left-step : (cell : ℕ) → cell < cells → sound (ruleOf rule) boards (cellOf boards cells (tableOf m k w) cell) ≡ true → leftFrom cell ≡ leftFrom (cell + 1)
+  unfolding lowestFrom
+  left-step cell l s = rw (one-more cell l, s, next-cell cell)
+
+  pub left-stop : (cell : ℕ) → cell < cells → sound (ruleOf rule) boards (cellOf boards cells (tableOf m k w) cell) ≡ false → leftFrom cell ≡ some cell
+  unfolding lowestFrom
+  left-stop cell l s = rw (one-more cell l, s)
+
+  pub left-end : (cell : ℕ) → cells ≤ cell → leftFrom cell ≡ none
+  unfolding lowestFrom
+  left-end cell l = let z : cells - cell ≡ 0 = omega arith in rw z
+
+  pub left-start : lowestUnsound rule boards cells (tableOf m k w) ≡ leftFrom 0
+  unfolding lowestUnsound
+  left-start = let z : cells - 0 ≡ cells = omega arith in rw z
+
+  -- ---- the ways out
+
+  pub refused-1 : sizesGood boards cells (tableOf m k w) ≡ false → Checks boards cells m k w rule (Refused 1)
+  unfolding numberOf
+  refused-1 s = record { number = sym (check-1 rule boards cells (tableOf m k w) .1 s); accepted = λ e. absurd (omega arith); refused = λ n. refl }
+
+  pub refused-2 : sizesGood boards cells (tableOf m k w) ≡ true → 4 < rule → Checks boards cells m k w rule (Refused 2)
+  unfolding numberOf
+  refused-2 s h = record { number = sym (check-2 rule boards cells (tableOf m k w) .1 (s, h)); accepted = λ e. absurd (omega arith); refused = λ n. refl }
+
+  number-found : (o : Option ℕ) → numberOf (foundOf o) ≡ 0
+  unfolding numberOf foundOf
+  number-found none = refl
+  number-found (some c) = refl
+
+  pub found : sizesGood boards cells (tableOf m k w) ≡ true → rule ≤ 4 → (r : Checked) → r ≡ foundOf (leftFrom 0) → Checks boards cells m k w rule r
+  found s h r e =
+      let z : numberOf r ≡ 0 = ap numberOf e ∙ number-found (leftFrom 0) in
+      record {
+        number = z ∙ sym (check-accepted rule boards cells (tableOf m k w) .1 (s, h));
+        accepted = λ d. e ∙ ap foundOf (sym left-start);
+        refused = λ n. absurd (n z);
+      }

@@ -1,0 +1,10 @@
+pub mod WordLaws
+pub mod FillLaws
+pub mod ReadyLaws
+pub mod SoundLaws
+pub mod CodeLaws
+pub mod SizeLaws
+pub mod PerformLaws
+pub mod ActionLaws
+pub mod FreshLaws
+pub mod CheckLaws

@@ -1,0 +1,3 @@
+-- What the functions of this crate promise. Assumes nothing.
+pub mod Statements
+pub mod Code

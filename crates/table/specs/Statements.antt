@@ -1,0 +1,50 @@
+-- What the public functions promise: the whole result and the end contents of every lent slice, for all inputs. Assumes nothing.
+use mathlib.Core.Path.{_≡_}
+use mathlib.Core.Logic.{_≢_}
+use mathlib.Core.List.{List}
+use mathlib.Core.Option.{Option, some, none}
+use Prim.Native.Nat.{ℕ}
+use Rattle.protocol.specs.declared.Action.{Action}
+use Rattle.protocol.specs.declared.Answer.{Answer}
+use Rattle.protocol.specs.Slices.{Table, main, copies, masks, tableOf}
+use Rattle.protocol.specs.Step.{answer, tableAfter}
+use Rattle.protocol.specs.Check.{checkAnswer, lowestUnsound}
+use Rattle.protocol.specs.Fresh.{freshAnswer, freshAfter}
+use Rattle.table.specs.declared.Checked.{Checked}
+use Rattle.table.specs.declared.Checked.the-variants.{Sound, Unsound, Refused}
+
+-- three lists hold a table
+pub record Holds (u : Table) (inMain inCopies inMasks : List ℕ) : Type 0 where
+  pub holds-main : inMain ≡ u main
+  pub holds-copies : inCopies ≡ u copies
+  pub holds-masks : inMasks ≡ u masks
+
+-- the paper's number for each case of `Checked`
+unfoldable pub numberOf : Checked → ℕ
+numberOf Sound = 0
+numberOf (Unsound cell) = 0
+numberOf (Refused number) = number
+
+-- the case of an accepted check, by its finding
+unfoldable pub foundOf : Option ℕ → Checked
+foundOf none = Sound
+foundOf (some cell) = Unsound cell
+
+module _ (boards cells : ℕ) (m k w : List ℕ) where
+  -- `fresh`
+  pub record Freshens (starting : List ℕ) (r : Answer) (m′ k′ w′ : List ℕ) : Type 0 where
+    pub number : r .number ≡ freshAnswer boards cells starting (tableOf m k w) .number
+    pub value : r .value ≡ freshAnswer boards cells starting (tableOf m k w) .value
+    pub slices : Holds (freshAfter boards cells starting (tableOf m k w)) m′ k′ w′
+
+  -- `check`
+  pub record Checks (rule : ℕ) (r : Checked) : Type 0 where
+    pub number : numberOf r ≡ checkAnswer rule boards cells (tableOf m k w) .number
+    pub accepted : numberOf r ≡ 0 → r ≡ foundOf (lowestUnsound rule boards cells (tableOf m k w))
+    pub refused : numberOf r ≢ 0 → r ≡ Refused (numberOf r)
+
+  -- `step`
+  pub record Steps (rule : ℕ) (a : Action) (r : Answer) (m′ k′ w′ : List ℕ) : Type 0 where
+    pub number : r .number ≡ answer rule boards cells (tableOf m k w) a .number
+    pub value : r .value ≡ answer rule boards cells (tableOf m k w) a .value
+    pub slices : Holds (tableAfter rule boards cells (tableOf m k w) a) m′ k′ w′

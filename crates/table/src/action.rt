@@ -1,0 +1,123 @@
+// An action on a table in lent slices: what stands against it, and what it does.
+ghost use mathlib.Core.Path.{_≡_};
+ghost use Prim.Native.Nat.{_≤_};
+ghost use Rattle.protocol.specs.Slices.{tableOf, sizesGood};
+ghost use Rattle.protocol.specs.Step.{answer};
+ghost use Rattle.table.specs.Code.{Room, Performs, actionOf};
+use crate::cell;
+use crate::mask;
+use crate::rules;
+use protocol::Action;
+
+// P is 1 to 16, N is 1 to 512, and each slice has exactly its length.
+pub fn sizes_good(boards: usize, cells: usize, main: &[u32], copies: &[u32], masks: &[u16]) -> bool
+    ensures { λ r. ⌜ r ≡ sizesGood boards cells (tableOf (now (main .entry)) (now (copies .entry)) (now (masks .entry))) ⌝ }
+{
+    if !(((1 <= boards) & (boards <= 16)) & ((1 <= cells) & (cells <= 512))) {
+        return false;
+    }
+    (main.len() == cells) & ((copies.len() == cells * boards) & (masks.len() == cells * 3))
+}
+
+// The number of an action's answer. Nothing is changed, and of the cells only the named one is looked at.
+pub fn refusal(
+    rule: u8,
+    boards: usize,
+    cells: usize,
+    main: &[u32],
+    copies: &[u32],
+    masks: &[u16],
+    a: Action,
+) -> u8
+    ensures { λ r. ⌜ r ≡ answer rule boards cells (tableOf (now (main .entry)) (now (copies .entry)) (now (masks .entry))) a .number ⌝ }
+{
+    if !sizes_good(boards, cells, main, copies, masks) {
+        return protocol::BAD_SIZES;
+    }
+    if rule > 4 {
+        return protocol::BAD_RULE;
+    }
+    if rules::malformed(a) {
+        return protocol::MALFORMED;
+    }
+    if rules::missing(rule, a.code) {
+        return protocol::MISSING;
+    }
+    if rules::off_board(boards, a) {
+        return protocol::OFF_BOARD;
+    }
+    let cell = a.cell as usize;
+    if cells <= cell {
+        return protocol::NO_SUCH_CELL;
+    }
+    if !cell::sound(rule, boards, cells, main, copies, masks, cell) {
+        return protocol::NOT_SOUND;
+    }
+    let m = cell::masks_at(masks, cell);
+    let now = cell::current(boards, main, copies, cell, m.dirty);
+    let board = a.board as usize;
+    let stale = copies[cell * boards + board] != now;
+    rules::guard(rule, m, stale, a)
+}
+
+// The effect of an accepted action, and the value that it answers.
+pub fn perform(
+    boards: usize,
+    cells: usize,
+    main: &mut [u32],
+    copies: &mut [u32],
+    masks: &mut [u16],
+    code: u8,
+    board: usize,
+    to: usize,
+    cell: usize,
+    value: u32,
+) -> u32
+    requires { ⌜ Room boards cells cell board to (now main) (now copies) (now masks) × (code ≤ 8) ⌝ }
+    ensures { λ r. ⌜ Performs boards cells (now (main .entry)) (now (copies .entry)) (now (masks .entry)) (actionOf code board to cell value) r (now (main .exit)) (now (copies .exit)) (now (masks .exit)) ⌝ }
+{
+    let home = cell * boards + board;
+    let there = cell * boards + to;
+    let live = cell * 3;
+    let dirty = cell * 3 + 1;
+    let lock = cell * 3 + 2;
+    match code {
+        0 => copies[home],
+        1 => {
+            copies[home] = value;
+            mask::mark(masks, live, board);
+            mask::mark(masks, dirty, board);
+            0
+        }
+        2 => 0,
+        3 => {
+            copies[home] = main[cell];
+            mask::mark(masks, live, board);
+            0
+        }
+        4 => {
+            main[cell] = copies[home];
+            mask::unmark(masks, dirty, board);
+            0
+        }
+        5 => {
+            copies[there] = copies[home];
+            mask::mark(masks, live, to);
+            0
+        }
+        6 => {
+            copies[home] = 0;
+            mask::unmark(masks, live, board);
+            0
+        }
+        7 => {
+            mask::mark(masks, lock, board);
+            0
+        }
+        8 => {
+            mask::unmark(masks, lock, board);
+            0
+        }
+        9..=255 => 0,
+    }
+}

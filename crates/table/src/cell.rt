@@ -1,0 +1,96 @@
+// One cell of a table: its masks, its current value, whether it is sound.
+ghost use mathlib.Core.Path.{_≡_};
+ghost use Prim.Native.Nat.{_+_, _*_, _<_, _≤_, _^_};
+ghost use lib.ListN.{length};
+ghost use Rattle.protocol.specs.Names.{ruleOf};
+ghost use Rattle.protocol.specs.Slices.{tableOf};
+ghost use Rattle.protocol.specs.Cell.{cellOf};
+ghost use Rattle.protocol.specs.Soundness.{sound as isSound};
+ghost use Rattle.table.specs.Code.{Ready, MasksAt, currentAt, masksSound, boardSound};
+use crate::mask;
+
+pub struct Masks {
+    pub live: u16,
+    pub dirty: u16,
+    pub lock: u16,
+}
+
+pub fn masks_at(masks: &[u16], cell: usize) -> Masks
+    requires { ⌜ (cell < 512) × (cell * 3 + 2 < length (now masks)) ⌝ }
+    ensures { λ r. ⌜ MasksAt (now (masks .entry)) cell (r .live) (r .dirty) (r .lock) ⌝ }
+{
+    let at = cell * 3;
+    Masks {
+        live: masks[at],
+        dirty: masks[at + 1],
+        lock: masks[at + 2],
+    }
+}
+
+// The dirty copy if there is one, else main.
+pub fn current(boards: usize, main: &[u32], copies: &[u32], cell: usize, dirty: u16) -> u32
+    requires { ⌜ (boards ≤ 16) × (cell < 512) × (cell < length (now main)) × (cell * boards + boards ≤ length (now copies)) × (dirty < 2 ^ boards) ⌝ }
+    ensures { λ r. ⌜ r ≡ currentAt boards cell dirty (now (main .entry)) (now (copies .entry)) ⌝ }
+{
+    if dirty == 0 {
+        return main[cell];
+    }
+    let board = u16::trailing_zeros(dirty) as usize;
+    copies[cell * boards + board]
+}
+
+// What the masks alone show: no bit at P or above, no lock below rule 3, at most one dirty board, at most one lock.
+pub fn masks_sound(rule: u8, boards: usize, m: Masks) -> bool
+    requires { ⌜ boards ≤ 16 ⌝ }
+    ensures { λ r. ⌜ r ≡ masksSound rule boards (m .live) (m .dirty) (m .lock) ⌝ }
+{
+    mask::is_below(m.live, boards)
+        & mask::is_below(m.dirty, boards)
+        & mask::is_below(m.lock, boards)
+        & ((rule > 2) | (m.lock == 0))
+        & ((rule < 1) | (u16::count_ones(m.dirty) <= 1))
+        & ((rule < 3) | (u16::count_ones(m.lock) <= 1))
+}
+
+// What one board shows, beside the current value.
+pub fn board_sound(rule: u8, m: Masks, copy: u32, current: u32, board: usize) -> bool
+    requires { ⌜ board < 16 ⌝ }
+    ensures { λ r. ⌜ r ≡ boardSound rule (m .live) (m .dirty) (m .lock) copy current board ⌝ }
+{
+    let live = mask::has_board(m.live, board);
+    let dirty = mask::has_board(m.dirty, board);
+    let lock = mask::has_board(m.lock, board);
+    (live | (copy == 0))
+        & (!dirty | live)
+        & ((rule < 2) | (!live | (copy == current)))
+        & ((rule < 3) | (!lock | !mask::has_another(m.live, board)))
+        & ((rule < 4) | (!dirty | lock))
+}
+
+pub fn sound(
+    rule: u8,
+    boards: usize,
+    cells: usize,
+    main: &[u32],
+    copies: &[u32],
+    masks: &[u16],
+    cell: usize,
+) -> bool
+    requires { ⌜ (rule ≤ 4) × Ready boards cells cell (now main) (now copies) (now masks) ⌝ }
+    ensures { λ r. ⌜ r ≡ isSound (ruleOf rule) boards (cellOf boards cells (tableOf (now (main .entry)) (now (copies .entry)) (now (masks .entry))) cell) ⌝ }
+{
+    let m = masks_at(masks, cell);
+    if !masks_sound(rule, boards, m) {
+        return false;
+    }
+    let now = current(boards, main, copies, cell, m.dirty);
+    let mut board = 0;
+    while board < boards {
+        let copy = copies[cell * boards + board];
+        if !board_sound(rule, m, copy, now, board) {
+            return false;
+        }
+        board += 1;
+    }
+    true
+}

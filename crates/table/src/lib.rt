@@ -1,0 +1,124 @@
+// The table over lent memory: a fresh table, a check of the whole table, and one action on it.
+ghost use Rattle.table.specs.Statements.{Freshens, Checks, Steps};
+
+mod action;
+mod cell;
+mod fill;
+mod mask;
+mod rules;
+
+use protocol::Action;
+use protocol::Answer;
+
+// What a whole-table check finds: every cell sound, the lowest-numbered cell that is not, or a refusal's number.
+pub enum Checked {
+    Sound,
+    Unsound(usize),
+    Refused(u8),
+}
+
+// A fresh table: main is `starting`, every copy and mask is 0.
+pub fn fresh(
+    boards: usize,
+    cells: usize,
+    starting: &[u32],
+    main: &mut [u32],
+    copies: &mut [u32],
+    masks: &mut [u16],
+) -> Answer
+    ensures { λ r. ⌜ Freshens boards cells (now (main .entry)) (now (copies .entry)) (now (masks .entry)) (now (starting .entry)) r (now (main .exit)) (now (copies .exit)) (now (masks .exit)) ⌝ }
+{
+    if !action::sizes_good(boards, cells, main, copies, masks) {
+        return Answer {
+            number: protocol::BAD_SIZES,
+            value: 0,
+        };
+    }
+    if starting.len() != cells {
+        return Answer {
+            number: protocol::BAD_SIZES,
+            value: 0,
+        };
+    }
+    fill::copy_all(starting, main);
+    fill::clear_values(copies);
+    fill::clear_masks(masks);
+    Answer {
+        number: protocol::ACCEPTED,
+        value: 0,
+    }
+}
+
+// Sound, or the lowest-numbered cell that is not: one pass over the cells, and at each over its boards.
+pub fn check(
+    rule: u8,
+    boards: usize,
+    cells: usize,
+    main: &[u32],
+    copies: &[u32],
+    masks: &[u16],
+) -> Checked
+    ensures { λ r. ⌜ Checks boards cells (now (main .entry)) (now (copies .entry)) (now (masks .entry)) rule r ⌝ }
+{
+    if !action::sizes_good(boards, cells, main, copies, masks) {
+        return Checked::Refused(protocol::BAD_SIZES);
+    }
+    if rule > 4 {
+        return Checked::Refused(protocol::BAD_RULE);
+    }
+    let mut answer = Checked::Sound;
+    let mut cell = 0;
+    'cells: while cell < cells {
+        let m = cell::masks_at(masks, cell);
+        if !cell::masks_sound(rule, boards, m) {
+            answer = Checked::Unsound(cell);
+            break 'cells;
+        }
+        let now = cell::current(boards, main, copies, cell, m.dirty);
+        let mut board = 0;
+        'boards: while board < boards {
+            let copy = copies[cell * boards + board];
+            if !cell::board_sound(rule, m, copy, now, board) {
+                answer = Checked::Unsound(cell);
+                break 'cells;
+            }
+            board += 1;
+        }
+        cell += 1;
+    }
+    answer
+}
+
+// One action on a table: its answer, and the table after it. A refusal changes nothing.
+pub fn step(
+    rule: u8,
+    boards: usize,
+    cells: usize,
+    main: &mut [u32],
+    copies: &mut [u32],
+    masks: &mut [u16],
+    action: Action,
+) -> Answer
+    ensures { λ r. ⌜ Steps boards cells (now (main .entry)) (now (copies .entry)) (now (masks .entry)) rule action r (now (main .exit)) (now (copies .exit)) (now (masks .exit)) ⌝ }
+{
+    let number = action::refusal(rule, boards, cells, main, copies, masks, action);
+    if number != protocol::ACCEPTED {
+        return Answer { number, value: 0 };
+    }
+    let board = action.board as usize;
+    let to = action.to as usize;
+    let cell = action.cell as usize;
+    let value = action::perform(
+        boards,
+        cells,
+        main,
+        copies,
+        masks,
+        action.code,
+        board,
+        to,
+        cell,
+        action.value,
+    );
+    Answer { number, value }
+}
