@@ -8,3 +8,5 @@ pub mod PerformLaws
 pub mod ActionLaws
 pub mod FreshLaws
 pub mod CheckLaws
+pub mod Unique
+pub mod Promises

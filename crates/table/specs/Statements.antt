@@ -48,3 +48,11 @@ module _ (boards cells : ℕ) (m k w : List ℕ) where
     pub number : r .number ≡ answer rule boards cells (tableOf m k w) a .number
     pub value : r .value ≡ answer rule boards cells (tableOf m k w) a .value
     pub slices : Holds (tableAfter rule boards cells (tableOf m k w) a) m′ k′ w′
+
+-- two outcomes of a call are the same: the answer, and what each lent slice holds
+pub record Same (r r′ : Answer) (m m′ k k′ w w′ : List ℕ) : Type 0 where
+  pub same-number : r .number ≡ r′ .number
+  pub same-value : r .value ≡ r′ .value
+  pub same-main : m ≡ m′
+  pub same-copies : k ≡ k′
+  pub same-masks : w ≡ w′

@@ -53,35 +53,47 @@ pub fn guard(rule: u8, m: Masks, stale: bool, a: Action) -> u8
     let to_dirty = mask::has_board(m.dirty, to);
     let code = a.code;
     match code {
-        0 => refuse(!live, 8, refuse((rule == 1) & stale, 15, 0)),
+        0 => refuse(
+            !live,
+            protocol::NOT_LIVE,
+            refuse((rule == 1) & stale, protocol::NOT_CURRENT, 0),
+        ),
         1 => refuse(
             (rule == 1) & (!dirty & another_dirty),
-            11,
+            protocol::DIRTY_ELSEWHERE,
             refuse(
                 (rule == 2) & another_live,
-                12,
-                refuse((rule >= 3) & !lock, 14, 0),
+                protocol::ANOTHER_COPY,
+                refuse((rule >= 3) & !lock, protocol::LOCK_NOT_HELD, 0),
             ),
         ),
-        2 => refuse(live, 16, 0),
+        2 => refuse(live, protocol::STILL_LIVE, 0),
         3 => refuse(
             dirty,
-            9,
+            protocol::IS_DIRTY,
             refuse(
                 ((rule == 2) | (rule == 3)) & another_dirty,
-                11,
-                refuse((rule >= 3) & another_lock, 13, 0),
+                protocol::DIRTY_ELSEWHERE,
+                refuse((rule >= 3) & another_lock, protocol::LOCK_BARS, 0),
             ),
         ),
-        4 => refuse(!dirty, 10, 0),
+        4 => refuse(!dirty, protocol::NOT_DIRTY, 0),
         5 => refuse(
             (rule >= 3) & any_lock,
-            13,
-            refuse(to_dirty, 9, refuse(!live, 8, 0)),
+            protocol::LOCK_BARS,
+            refuse(
+                to_dirty,
+                protocol::IS_DIRTY,
+                refuse(!live, protocol::NOT_LIVE, 0),
+            ),
         ),
-        6 => refuse(dirty, 9, 0),
-        7 => refuse(any_lock, 13, refuse(another_live, 12, 0)),
-        8 => refuse((rule == 4) & dirty, 9, 0),
-        9..=255 => 3,
+        6 => refuse(dirty, protocol::IS_DIRTY, 0),
+        7 => refuse(
+            any_lock,
+            protocol::LOCK_BARS,
+            refuse(another_live, protocol::ANOTHER_COPY, 0),
+        ),
+        8 => refuse((rule == 4) & dirty, protocol::IS_DIRTY, 0),
+        9..=255 => protocol::MALFORMED,
     }
 }

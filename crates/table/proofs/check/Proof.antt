@@ -15,13 +15,6 @@ use Rattle.table.proofs.SoundLaws.{masks-below, unsound-masks, unsound-
 use Rattle.table.proofs.CheckLaws.{leftFrom, left-step, left-stop, left-end, refused-1, refused-2, found}
 use Rattle.table.proofs.check.Statement.{statement}
 use Rattle.table.proofs.check.Tie as tie
-use Rattle.table.proofs.check.Reads as reads
-use Rattle.table.proofs.check.Lts as lts
-use Rattle.table.proofs.action.sizes_good.Reads as sizes-good-reads
-use Rattle.table.proofs.cell.board_sound.Reads as board-sound-reads
-use Rattle.table.proofs.cell.current.Reads as current-reads
-use Rattle.table.proofs.cell.masks_at.Reads as masks-at-reads
-use Rattle.table.proofs.cell.masks_sound.Reads as masks-sound-reads
 
 abbrev Inv-boards : tie.InvT-boards
 Inv-boards rule boards cells main copies masks answer₀ cell m now board₀ answer board =
@@ -45,79 +38,60 @@ at-cell c = ready _ _ _ _ _ (sym (c .before .before .before .before .sizes-good 
 small : (c : tie.In-boards Inv-boards μ-boards Inv-cells μ-cells) → c .before .before .before .before .before .before .before .cells .cell * c .before .before .before .before .before .before .before .before .before .before .before .before .before .before .args .boards + c .before .boards .board < 8192
 small c = copy-small _ _ _ _ _ _ (at-cell (c .before .before .before .before .before .before)) _ (c .boards-test .taken)
 
--- src/lib.rt:63:9
 sizes-good-requires : tie.Need-sizes-good-requires Inv-boards μ-boards Inv-cells μ-cells
 sizes-good-requires c κs = search needs
 
--- src/lib.rt:64:9
 returns : tie.Need-returns Inv-boards μ-boards Inv-cells μ-cells
 returns c = refused-1 _ _ _ _ _ _ (sym (c .before .sizes-good .ensures) ∙ not-true _ (c .if1 .taken))
 
--- src/lib.rt:67:9
 returns-2 : tie.Need-returns-2 Inv-boards μ-boards Inv-cells μ-cells
 returns-2 c = refused-2 _ _ _ _ _ _ (sym (c .before .before .sizes-good .ensures) ∙ not-false _ (c .before .if1 .left)) (c .if2 .taken)
 
--- src/lib.rt:71:5
 cells-holds : tie.Need-cells-holds Inv-boards μ-boards Inv-cells μ-cells
 cells-holds c = (search needs, refl, refl)
 
--- src/lib.rt:72:13
 masks-at-requires : tie.Need-masks-at-requires Inv-boards μ-boards Inv-cells μ-cells
 masks-at-requires c κs = let y = at-cell c in (omega (arith, y .inside, y .few-cells), masks-in _ _ _ _ _ _ y)
 
--- src/lib.rt:73:13
 masks-sound-requires : tie.Need-masks-sound-requires Inv-boards μ-boards Inv-cells μ-cells
 masks-sound-requires c κs = at-cell (c .before) .few-boards
 
--- src/lib.rt:77:13
 current-requires : tie.Need-current-requires Inv-boards μ-boards Inv-cells μ-cells
 current-requires c κs = let y = at-cell (c .before .before .before) in (y .few-boards, omega (arith, y .inside, y .few-cells), omega (arith, y .mains, y .inside), row-in _ _ _ _ _ _ y, masks-below _ _ _ _ _ (sym (c .before .masks-sound .ensures) ∙ not-false _ (c .if3 .left)))
 
--- src/lib.rt:79:9
 boards-holds : tie.Need-boards-holds Inv-boards μ-boards Inv-cells μ-cells
 boards-holds c = (search needs, refl, λ p l. absurd (omega arith))
 
--- src/lib.rt:80:31
 mul-copy : tie.Need-mul-copy Inv-boards μ-boards Inv-cells μ-cells
 mul-copy c = omega (arith, small c)
 
--- src/lib.rt:80:31
 add-copy : tie.Need-add-copy Inv-boards μ-boards Inv-cells μ-cells
 add-copy c = omega (arith, small c)
 
--- src/lib.rt:80:24
 mul-copy-2 : tie.Need-mul-copy-2 Inv-boards μ-boards Inv-cells μ-cells
 mul-copy-2 c = omega (arith, small c)
 
--- src/lib.rt:80:24
 shared-slice-read-copy : tie.Need-shared-slice-read-copy Inv-boards μ-boards Inv-cells μ-cells
 shared-slice-read-copy c = copy-in _ _ _ _ _ _ (at-cell (c .before .before .before .before .before .before .before)) _ (c .before .boards-test .taken)
 
--- src/lib.rt:81:17
 board-sound-requires : tie.Need-board-sound-requires Inv-boards μ-boards Inv-cells μ-cells
 board-sound-requires c κs = omega (arith, at-cell (c .before .before .before .before .before .before .before) .few-boards)
 
--- src/lib.rt:85:13
 add-board : tie.Need-add-board Inv-boards μ-boards Inv-cells μ-cells
 add-board c = omega arith
 
--- src/lib.rt:79:9
 boards-less : tie.Need-boards-less Inv-boards μ-boards Inv-cells μ-cells
 boards-less c = omega arith
 
--- src/lib.rt:79:9
 boards-again : tie.Need-boards-again Inv-boards μ-boards Inv-cells μ-cells
 boards-again c = let i = c .before .before .before .before .boards .inv in (omega arith, i .1, below-more _ _ (i .2) (sym (c .before .board-sound .ensures) ∙ not-false _ (c .if4 .left)))
 
--- src/lib.rt:87:9
 add-cell : tie.Need-add-cell Inv-boards μ-boards Inv-cells μ-cells
 add-cell c = omega arith
 
--- src/lib.rt:71:5
 cells-less : tie.Need-cells-less Inv-boards μ-boards Inv-cells μ-cells
 cells-less c = omega arith
 
--- src/lib.rt:71:5
 cells-again : tie.Need-cells-again Inv-boards μ-boards Inv-cells μ-cells
 cells-again c = let i = c .before .boards .inv in
     let j = c .before .before .before .before .before .before .before .cells .inv in
@@ -125,20 +99,17 @@ cells-again c = let i = c .before .boards .inv in
     let s = all-boards _ _ _ _ _ _ _ (c .before .before .before .before .before .before .before .before .if2 .left) (at-cell (c .before .before .before .before .before .before)) _ _ _ (c .before .before .before .before .before .masks-at .ensures) (sym (c .before .before .before .before .masks-sound .ensures) ∙ not-false _ (c .before .before .before .if3 .left)) _ (c .before .before .current .ensures) (λ p l. i .2 p (omega arith)) in
     (omega arith, i .1 ∙ j .1, j .2 ∙ left-step _ _ _ _ _ _ _ (c .before .before .before .before .before .before .cells-test .taken) s)
 
--- src/lib.rt:53:1
 returns-3 : tie.Need-returns-3 Inv-boards μ-boards Inv-cells μ-cells
 unfolding foundOf
 returns-3 c = let j = c .before .cells .inv in
     found _ _ _ _ _ _ (sym (c .before .before .before .before .sizes-good .ensures) ∙ not-false _ (c .before .before .before .if1 .left)) (c .before .before .if2 .left) _ (j .1 ∙ ap foundOf (sym (left-end _ _ _ _ _ _ _ (c .cells-test .left)) ∙ sym (j .2)))
 
--- src/lib.rt:53:1
 returns-4 : tie.Need-returns-4 Inv-boards μ-boards Inv-cells μ-cells
 unfolding foundOf
 returns-4 c = let j = c .before .before .before .before .cells .inv in
     let s = unsound-masks _ _ _ _ _ _ _ (c .before .before .before .before .before .if2 .left) (at-cell (c .before .before .before)) _ _ _ (c .before .before .masks-at .ensures) (sym (c .before .masks-sound .ensures) ∙ not-true _ (c .if3 .taken)) in
     found _ _ _ _ _ _ (sym (c .before .before .before .before .before .before .before .sizes-good .ensures) ∙ not-false _ (c .before .before .before .before .before .before .if1 .left)) (c .before .before .before .before .before .if2 .left) _ (ap foundOf (sym (left-stop _ _ _ _ _ _ _ (c .before .before .before .cells-test .taken) s) ∙ sym (j .2)))
 
--- src/lib.rt:53:1
 returns-5 : tie.Need-returns-5 Inv-boards μ-boards Inv-cells μ-cells
 unfolding foundOf
 returns-5 c = let j = c .before .before .before .before .before .before .before .before .before .before .cells .inv in

@@ -6,74 +6,52 @@ use Rattle.table.proofs.FreshLaws.{not-started, started, main-length}
 use borrow.Author.Needs.{needs}
 use Rattle.table.proofs.fresh.Statement.{statement}
 use Rattle.table.proofs.fresh.Tie as tie
-use Rattle.table.proofs.fresh.Reads as reads
-use Rattle.table.proofs.fresh.Lts as lts
-use Rattle.table.proofs.action.sizes_good.Reads as sizes-good-reads
-use Rattle.table.proofs.fill.clear_masks.Reads as clear-masks-reads
-use Rattle.table.proofs.fill.clear_values.Reads as clear-values-reads
-use Rattle.table.proofs.fill.copy_all.Reads as copy-all-reads
 
--- src/lib.rt:31:9
 sizes-good-requires : tie.Need-sizes-good-requires
 sizes-good-requires c κs = search needs
 
--- src/lib.rt:32:9
 same-length : tie.Need-same-length
 same-length c = search needs
 
--- src/lib.rt:32:9
 same-length-2 : tie.Need-same-length-2
 same-length-2 c = search needs
 
--- src/lib.rt:32:9
 same-length-3 : tie.Need-same-length-3
 same-length-3 c = search needs
 
--- src/lib.rt:32:9
 returns : tie.Need-returns
 returns c = not-started _ _ _ _ _ _ (inl (sym (c .before .sizes-good .ensures) ∙ not-true _ (c .if1 .taken)))
 
--- src/lib.rt:38:9
 same-length-4 : tie.Need-same-length-4
 same-length-4 c = search needs
 
--- src/lib.rt:38:9
 same-length-5 : tie.Need-same-length-5
 same-length-5 c = search needs
 
--- src/lib.rt:38:9
 same-length-6 : tie.Need-same-length-6
 same-length-6 c = search needs
 
--- src/lib.rt:38:9
 returns-2 : tie.Need-returns-2
 returns-2 c = not-started _ _ _ _ _ _ (inr (c .if2 .taken))
 
--- src/lib.rt:43:5
 copy-all-requires : tie.Need-copy-all-requires
 copy-all-requires c κs = c .before .if2 .left ∙ sym (main-length _ _ _ _ _ (sym (c .before .before .before .sizes-good .ensures) ∙ not-false _ (c .before .before .if1 .left)))
 
--- src/lib.rt:44:5
 clear-values-requires : tie.Need-clear-values-requires
 clear-values-requires c κs = search needs
 
--- src/lib.rt:45:5
 clear-masks-requires : tie.Need-clear-masks-requires
 clear-masks-requires c κs = search needs
 
--- src/lib.rt:21:1
 same-length-7 : tie.Need-same-length-7
 same-length-7 c = search needs
 
--- src/lib.rt:21:1
 same-length-8 : tie.Need-same-length-8
 same-length-8 c = search needs
 
--- src/lib.rt:21:1
 same-length-9 : tie.Need-same-length-9
 same-length-9 c = search needs
 
--- src/lib.rt:21:1
 returns-3 : tie.Need-returns-3
 returns-3 c = started _ _ _ _ _ _ (sym (c .before .before .before .before .before .before .before .before .before .before .before .before .before .before .sizes-good .ensures) ∙ not-false _ (c .before .before .before .before .before .before .before .before .before .before .before .before .before .if1 .left)) (c .before .before .before .before .before .before .before .before .before .before .before .before .if2 .left) _ _ _ (c .before .before .before .before .before .before .before .before .before .before .copy-all .ensures) (c .before .before .before .before .before .before .clear-values .ensures) (c .before .before .clear-masks .ensures)
 

@@ -5,236 +5,175 @@ use Rattle.table.proofs.PerformLaws.{does-read, does-write, does-barrie
 use borrow.Author.Needs.{needs}
 use Rattle.table.proofs.action.perform.Statement.{statement}
 use Rattle.table.proofs.action.perform.Tie as tie
-use Rattle.table.proofs.action.perform.Reads as reads
-use Rattle.table.proofs.action.perform.Lts as lts
-use Rattle.table.proofs.mask.mark.Reads as mark-reads
-use Rattle.table.proofs.mask.unmark.Reads as unmark-reads
 
--- src/action.rt:79:16
 mul-home : tie.Need-mul-home
 mul-home c = search needs
 
--- src/action.rt:79:16
 add-home : tie.Need-add-home
 add-home c = search needs
 
--- src/action.rt:80:17
 mul-there : tie.Need-mul-there
 mul-there c = search needs
 
--- src/action.rt:80:17
 add-there : tie.Need-add-there
 add-there c = search needs
 
--- src/action.rt:81:16
 mul-live : tie.Need-mul-live
 mul-live c = search needs
 
--- src/action.rt:82:17
 mul-dirty : tie.Need-mul-dirty
 mul-dirty c = search needs
 
--- src/action.rt:82:17
 add-dirty : tie.Need-add-dirty
 add-dirty c = search needs
 
--- src/action.rt:83:16
 mul-lock : tie.Need-mul-lock
 mul-lock c = search needs
 
--- src/action.rt:83:16
 add-lock : tie.Need-add-lock
 add-lock c = search needs
 
--- src/action.rt:85:14
 mul-result : tie.Need-mul-result
 mul-result c = search needs
 
--- src/action.rt:85:14
 slice-read-result : tie.Need-slice-read-result
 slice-read-result c = search needs
 
--- src/action.rt:87:13
 mul-copies : tie.Need-mul-copies
 mul-copies c = search needs
 
--- src/action.rt:87:13
 slice-write-copies : tie.Need-slice-write-copies
 slice-write-copies c = search needs
 
--- src/action.rt:88:13
 mark-requires : tie.Need-mark-requires
 mark-requires c κs = search needs
 
--- src/action.rt:89:13
 mark-requires-2 : tie.Need-mark-requires-2
 mark-requires-2 c κs = search needs
 
--- src/action.rt:94:28
 mul-copies-2 : tie.Need-mul-copies-2
 mul-copies-2 c = search needs
 
--- src/action.rt:94:28
 slice-read-copies : tie.Need-slice-read-copies
 slice-read-copies c = search needs
 
--- src/action.rt:94:13
 mul-copies-3 : tie.Need-mul-copies-3
 mul-copies-3 c = search needs
 
--- src/action.rt:94:13
 slice-write-copies-2 : tie.Need-slice-write-copies-2
 slice-write-copies-2 c = search needs
 
--- src/action.rt:95:13
 mark-requires-3 : tie.Need-mark-requires-3
 mark-requires-3 c κs = search needs
 
--- src/action.rt:99:26
 mul-main : tie.Need-mul-main
 mul-main c = search needs
 
--- src/action.rt:99:26
 slice-read-main : tie.Need-slice-read-main
 slice-read-main c = search needs
 
--- src/action.rt:99:13
 mul-main-2 : tie.Need-mul-main-2
 mul-main-2 c = search needs
 
--- src/action.rt:99:13
 slice-write-main : tie.Need-slice-write-main
 slice-write-main c = search needs
 
--- src/action.rt:100:13
 unmark-requires : tie.Need-unmark-requires
 unmark-requires c κs = search needs
 
--- src/action.rt:104:29
 mul-copies-4 : tie.Need-mul-copies-4
 mul-copies-4 c = search needs
 
--- src/action.rt:104:29
 slice-read-copies-2 : tie.Need-slice-read-copies-2
 slice-read-copies-2 c = search needs
 
--- src/action.rt:104:13
 mul-copies-5 : tie.Need-mul-copies-5
 mul-copies-5 c = search needs
 
--- src/action.rt:104:13
 slice-write-copies-3 : tie.Need-slice-write-copies-3
 slice-write-copies-3 c = search needs
 
--- src/action.rt:105:13
 mark-requires-4 : tie.Need-mark-requires-4
 mark-requires-4 c κs = search needs
 
--- src/action.rt:109:13
 mul-copies-6 : tie.Need-mul-copies-6
 mul-copies-6 c = search needs
 
--- src/action.rt:109:13
 slice-write-copies-4 : tie.Need-slice-write-copies-4
 slice-write-copies-4 c = search needs
 
--- src/action.rt:110:13
 unmark-requires-2 : tie.Need-unmark-requires-2
 unmark-requires-2 c κs = search needs
 
--- src/action.rt:114:13
 mark-requires-5 : tie.Need-mark-requires-5
 mark-requires-5 c κs = search needs
 
--- src/action.rt:118:13
 unmark-requires-3 : tie.Need-unmark-requires-3
 unmark-requires-3 c κs = search needs
 
--- src/action.rt:64:1
 returns : tie.Need-returns
 returns c = rw (c .before .match .keys1) (does-read _ _ _ _ _ _ _ _ _ (c .before .before .before .before .before .pre .0))
 
--- src/action.rt:64:1
 same-length : tie.Need-same-length
 same-length c = search needs
 
--- src/action.rt:64:1
 same-length-2 : tie.Need-same-length-2
 same-length-2 c = search needs
 
--- src/action.rt:64:1
 returns-2 : tie.Need-returns-2
 returns-2 c = rw (c .before .before .before .before .before .before .before .before .match .keys2) (does-write _ _ _ _ _ _ _ _ _ (c .before .before .before .before .before .before .before .before .before .before .before .before .pre .0) _ _ (c .before .before .before .before .before .before .mark .ensures) (c .before .before .mark2 .ensures))
 
--- src/action.rt:64:1
 returns-3 : tie.Need-returns-3
 returns-3 c = rw (c .match .keys3) (does-barrier _ _ _ _ _ _ _ _ _ (c .before .before .before .before .pre .0))
 
--- src/action.rt:64:1
 same-length-3 : tie.Need-same-length-3
 same-length-3 c = search needs
 
--- src/action.rt:64:1
 same-length-4 : tie.Need-same-length-4
 same-length-4 c = search needs
 
--- src/action.rt:64:1
 returns-4 : tie.Need-returns-4
 returns-4 c = rw (c .before .before .before .before .before .match .keys4) (does-mtoc _ _ _ _ _ _ _ _ _ (c .before .before .before .before .before .before .before .before .before .pre .0) _ (c .before .before .mark3 .ensures))
 
--- src/action.rt:64:1
 same-length-5 : tie.Need-same-length-5
 same-length-5 c = search needs
 
--- src/action.rt:64:1
 same-length-6 : tie.Need-same-length-6
 same-length-6 c = search needs
 
--- src/action.rt:64:1
 returns-5 : tie.Need-returns-5
 returns-5 c = rw (c .before .before .before .before .before .match .keys5) (does-ctom _ _ _ _ _ _ _ _ _ (c .before .before .before .before .before .before .before .before .before .pre .0) _ (c .before .before .unmark .ensures))
 
--- src/action.rt:64:1
 same-length-7 : tie.Need-same-length-7
 same-length-7 c = search needs
 
--- src/action.rt:64:1
 same-length-8 : tie.Need-same-length-8
 same-length-8 c = search needs
 
--- src/action.rt:64:1
 returns-6 : tie.Need-returns-6
 returns-6 c = rw (c .before .before .before .before .before .match .keys6) (does-ctoc _ _ _ _ _ _ _ _ _ (c .before .before .before .before .before .before .before .before .before .pre .0) _ (c .before .before .mark4 .ensures))
 
--- src/action.rt:64:1
 same-length-9 : tie.Need-same-length-9
 same-length-9 c = search needs
 
--- src/action.rt:64:1
 same-length-10 : tie.Need-same-length-10
 same-length-10 c = search needs
 
--- src/action.rt:64:1
 returns-7 : tie.Need-returns-7
 returns-7 c = rw (c .before .before .before .before .match .keys7) (does-drop _ _ _ _ _ _ _ _ _ (c .before .before .before .before .before .before .before .before .pre .0) _ (c .before .before .unmark2 .ensures))
 
--- src/action.rt:64:1
 same-length-11 : tie.Need-same-length-11
 same-length-11 c = search needs
 
--- src/action.rt:64:1
 returns-8 : tie.Need-returns-8
 returns-8 c = rw (c .before .before .before .before .match .keys8) (does-acquire _ _ _ _ _ _ _ _ _ (c .before .before .before .before .before .before .before .before .pre .0) _ (c .before .before .mark5 .ensures))
 
--- src/action.rt:64:1
 same-length-12 : tie.Need-same-length-12
 same-length-12 c = search needs
 
--- src/action.rt:64:1
 returns-9 : tie.Need-returns-9
 returns-9 c = rw (c .before .before .before .before .match .keys9) (does-release _ _ _ _ _ _ _ _ _ (c .before .before .before .before .before .before .before .before .pre .0) _ (c .before .before .unmark3 .ensures))
 
--- src/action.rt:64:1
 returns-10 : tie.Need-returns-10
 returns-10 c = absurd (omega (arith, past _ (c .match .rest), c .before .before .before .before .pre .1))
 

@@ -9,16 +9,6 @@ use Rattle.protocol.proofs.NumberLaws.{code-fits}
 use borrow.Author.Needs.{needs}
 use Rattle.table.proofs.action.refusal.Statement.{statement}
 use Rattle.table.proofs.action.refusal.Tie as tie
-use Rattle.table.proofs.action.refusal.Reads as reads
-use Rattle.table.proofs.action.refusal.Lts as lts
-use Rattle.table.proofs.action.sizes_good.Reads as sizes-good-reads
-use Rattle.table.proofs.cell.current.Reads as current-reads
-use Rattle.table.proofs.cell.masks_at.Reads as masks-at-reads
-use Rattle.table.proofs.cell.sound.Reads as sound-reads
-use Rattle.table.proofs.rules.guard.Reads as guard-reads
-use Rattle.table.proofs.rules.malformed.Reads as malformed-reads
-use Rattle.table.proofs.rules.missing.Reads as missing-reads
-use Rattle.table.proofs.rules.off_board.Reads as off-board-reads
 
 -- past the sixth test
 cleared : (c : tie.Else6) → let a = c .before .before .before .before .before .before .before .before .before .before .before .before .before .before .args in Cleared (a .rule) (a .boards) (a .cells) (a .main .now) (a .copies .now) (a .masks .now) (a .a)
@@ -32,96 +22,74 @@ cleared c =
       inside = c .if6 .left;
     }
 
--- src/action.rt:34:9
 sizes-good-requires : tie.Need-sizes-good-requires
 sizes-good-requires c κs = search needs
 
--- src/action.rt:35:9
 returns : tie.Need-returns
 returns c = sym (answers-1 _ _ _ _ _ .1 (sym (c .before .sizes-good .ensures) ∙ not-true _ (c .if1 .taken)))
 
--- src/action.rt:38:9
 returns-2 : tie.Need-returns-2
 returns-2 c = sym (answers-2 _ _ _ _ _ .1 (sym (c .before .before .sizes-good .ensures) ∙ not-false _ (c .before .if1 .left), c .if2 .taken))
 
--- src/action.rt:40:8
 malformed-requires : tie.Need-malformed-requires
 malformed-requires c κs = search needs
 
--- src/action.rt:41:9
 returns-3 : tie.Need-returns-3
 returns-3 c = sym (answers-3 _ _ _ _ _ .1 (sym (c .before .before .before .before .sizes-good .ensures) ∙ not-false _ (c .before .before .before .if1 .left), c .before .before .if2 .left, sym (c .before .malformed .ensures) ∙ c .if3 .taken))
 
--- src/action.rt:43:8
 missing-requires : tie.Need-missing-requires
 missing-requires c κs = search needs
 
--- src/action.rt:44:9
 returns-4 : tie.Need-returns-4
 returns-4 c = sym (answers-4 _ _ _ _ _ .1 (sym (c .before .before .before .before .before .before .sizes-good .ensures) ∙ not-false _ (c .before .before .before .before .before .if1 .left), c .before .before .before .before .if2 .left, sym (c .before .before .before .malformed .ensures) ∙ c .before .before .if3 .left, sym (c .before .missing .ensures) ∙ c .if4 .taken))
 
--- src/action.rt:46:8
 off-board-requires : tie.Need-off-board-requires
 off-board-requires c κs = search needs
 
--- src/action.rt:47:9
 returns-5 : tie.Need-returns-5
 returns-5 c = sym (answers-5 _ _ _ _ _ .1 (sym (c .before .before .before .before .before .before .before .before .sizes-good .ensures) ∙ not-false _ (c .before .before .before .before .before .before .before .if1 .left), c .before .before .before .before .before .before .if2 .left, sym (c .before .before .before .before .before .malformed .ensures) ∙ c .before .before .before .before .if3 .left, sym (c .before .before .before .missing .ensures) ∙ c .before .before .if4 .left, sym (c .before .off-board .ensures) ∙ c .if5 .taken))
 
--- src/action.rt:49:16
 cast-cell : tie.Need-cast-cell
 cast-cell c = search needs
 
--- src/action.rt:51:9
 returns-6 : tie.Need-returns-6
 returns-6 c = sym (answers-6 _ _ _ _ _ .1 (sym (c .before .before .before .before .before .before .before .before .before .before .sizes-good .ensures) ∙ not-false _ (c .before .before .before .before .before .before .before .before .before .if1 .left), c .before .before .before .before .before .before .before .before .if2 .left, sym (c .before .before .before .before .before .before .before .malformed .ensures) ∙ c .before .before .before .before .before .before .if3 .left, sym (c .before .before .before .before .before .missing .ensures) ∙ c .before .before .before .before .if4 .left, sym (c .before .before .before .off-board .ensures) ∙ c .before .before .if5 .left, c .if6 .taken))
 
--- src/action.rt:53:9
 sound-requires : tie.Need-sound-requires
 sound-requires c κs = (cleared c .ruled, cleared-ready _ _ _ _ _ _ _ (cleared c))
 
--- src/action.rt:54:9
 returns-7 : tie.Need-returns-7
 returns-7 c = cleared-7 _ _ _ _ _ _ _ (cleared (c .before .before)) (sym (c .before .sound .ensures) ∙ not-true _ (c .if7 .taken))
 
--- src/action.rt:56:9
 masks-at-requires : tie.Need-masks-at-requires
 masks-at-requires c κs = let y = cleared-ready _ _ _ _ _ _ _ (cleared (c .before .before)) in (omega (arith, y .inside, y .few-cells), masks-in _ _ _ _ _ _ y)
 
--- src/action.rt:57:9
 current-requires : tie.Need-current-requires
 current-requires c κs = let k = cleared (c .before .before .before) in
     let y = cleared-ready _ _ _ _ _ _ _ k in
     (y .few-boards, omega (arith, y .inside, y .few-cells), omega (arith, y .mains, y .inside), row-in _ _ _ _ _ _ y, dirty-below _ _ _ _ _ _ _ k (sym (c .before .before .sound .ensures) ∙ not-false _ (c .before .if7 .left)) _ _ _ (c .masks-at .ensures))
 
--- src/action.rt:58:17
 cast-board : tie.Need-cast-board
 cast-board c = search needs
 
--- src/action.rt:59:24
 mul-stale : tie.Need-mul-stale
 mul-stale c = let k = cleared (c .before .before .before .before .before) in omega (arith, copy-small _ _ _ _ _ _ (cleared-ready _ _ _ _ _ _ _ k) _ (cleared-boards _ _ _ _ _ _ _ k .0))
 
--- src/action.rt:59:24
 add-stale : tie.Need-add-stale
 add-stale c = let k = cleared (c .before .before .before .before .before) in omega (arith, copy-small _ _ _ _ _ _ (cleared-ready _ _ _ _ _ _ _ k) _ (cleared-boards _ _ _ _ _ _ _ k .0))
 
--- src/action.rt:59:17
 mul-stale-2 : tie.Need-mul-stale-2
 mul-stale-2 c = let k = cleared (c .before .before .before .before .before) in omega (arith, copy-small _ _ _ _ _ _ (cleared-ready _ _ _ _ _ _ _ k) _ (cleared-boards _ _ _ _ _ _ _ k .0))
 
--- src/action.rt:59:17
 shared-slice-read-stale : tie.Need-shared-slice-read-stale
 shared-slice-read-stale c = let k = cleared (c .before .before .before .before .before .before) in copy-in _ _ _ _ _ _ (cleared-ready _ _ _ _ _ _ _ k) _ (cleared-boards _ _ _ _ _ _ _ k .0)
 
--- src/action.rt:60:5
 guard-requires : tie.Need-guard-requires
 guard-requires c κs = let k = cleared (c .before .before .before .before .before .before) in
     let b = cleared-boards _ _ _ _ _ _ _ k in
     let f = cleared-ready _ _ _ _ _ _ _ k .few-boards in
     (k .ruled, omega arith, omega arith, k .there, code-fits _ (k .formed))
 
--- src/action.rt:23:1
 returns-8 : tie.Need-returns-8
 returns-8 c = cleared-guard _ _ _ _ _ _ _ (cleared (c .before .before .before .before .before .before .before)) (sym (c .before .before .before .before .before .before .sound .ensures) ∙ not-false _ (c .before .before .before .before .before .if7 .left)) _ _ _ (c .before .before .before .before .masks-at .ensures) _ _ (c .before .before .before .current .ensures) (c .guard .ensures)
 

@@ -5,22 +5,16 @@ use borrow.Author.Tests.{not-true, not-false}
 use Rattle.table.proofs.SizeLaws.{out-of-range, by-lengths, small-product, small-cells}
 use Rattle.table.proofs.action.sizes_good.Statement.{statement}
 use Rattle.table.proofs.action.sizes_good.Tie as tie
-use Rattle.table.proofs.action.sizes_good.Reads as reads
-use Rattle.table.proofs.action.sizes_good.Lts as lts
 
--- src/action.rt:17:9
 returns : tie.Need-returns
 returns c = sym (out-of-range _ _ _ _ _ (not-true _ (c .if1 .taken)))
 
--- src/action.rt:19:47
 mul-result : tie.Need-mul-result
 mul-result c = omega (arith, small-product (c .before .args .boards) (c .before .args .cells) (not-false _ (c .if1 .left)))
 
--- src/action.rt:19:81
 mul-result-2 : tie.Need-mul-result-2
 mul-result-2 c = omega (arith, small-cells (c .before .args .boards) (c .before .args .cells) (not-false _ (c .if1 .left)))
 
--- src/action.rt:13:1
 returns-2 : tie.Need-returns-2
 returns-2 c = by-lengths _ _ _ _ _ (not-false _ (c .if1 .left))
 

@@ -13,8 +13,6 @@ use Rattle.table.proofs.ReadyLaws.{lowest-in}
 use borrow.Author.Needs.{needs}
 use Rattle.table.proofs.cell.current.Statement.{statement}
 use Rattle.table.proofs.cell.current.Tie as tie
-use Rattle.table.proofs.cell.current.Reads as reads
-use Rattle.table.proofs.cell.current.Lts as lts
 
 -- the dirty board
 board-is : (c : tie.Else1) → trailingZeros 16 (c .before .args .dirty) ≡ lowestBoard (c .before .args .dirty)
@@ -23,40 +21,31 @@ board-is c = lowest-code (c .before .args .dirty) (omega (arith, pow-mono (c .be
 board-in : (c : tie.Else1) → trailingZeros 16 (c .before .args .dirty) < c .before .args .boards
 board-in c = rw (board-is c) (lowest-in (c .before .args .boards) (c .before .args .dirty) (c .before .pre .4) (c .if1 .left))
 
--- src/cell.rt:36:16
 mul-result : tie.Need-mul-result
 mul-result c = search needs
 
--- src/cell.rt:36:16
 shared-slice-read-result : tie.Need-shared-slice-read-result
 shared-slice-read-result c = search needs
 
--- src/cell.rt:36:9
 returns : tie.Need-returns
 unfolding currentAt
 returns c = rw (eq-eqb _ _ (c .before .if1 .taken))
 
--- src/cell.rt:38:17
 cast-board : tie.Need-cast-board
 cast-board c = omega (arith, board-in c)
 
--- src/cell.rt:39:12
 mul-result-2 : tie.Need-mul-result-2
 mul-result-2 c = search needs
 
--- src/cell.rt:39:12
 add-result : tie.Need-add-result
 add-result c = omega (arith, board-in c, mul-le-mul-left (c .before .args .cell) (c .before .pre .0), c .before .pre .0, c .before .pre .1)
 
--- src/cell.rt:39:5
 mul-result-3 : tie.Need-mul-result-3
 mul-result-3 c = omega (arith, board-in c, mul-le-mul-left (c .before .args .cell) (c .before .pre .0), c .before .pre .0, c .before .pre .1)
 
--- src/cell.rt:39:5
 shared-slice-read-result-2 : tie.Need-shared-slice-read-result-2
 shared-slice-read-result-2 c = omega (arith, board-in (c .before), c .before .before .pre .3)
 
--- src/cell.rt:31:1
 returns-2 : tie.Need-returns-2
 unfolding currentAt
 returns-2 c = rw (board-is (c .before), ne-eqb _ _ (c .before .if1 .left))

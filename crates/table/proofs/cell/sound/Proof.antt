@@ -11,12 +11,6 @@ use Rattle.table.proofs.ReadyLaws.{copy-in, copy-small, row-in, masks-i
 use Rattle.table.proofs.SoundLaws.{masks-below, unsound-masks, unsound-board, all-boards}
 use Rattle.table.proofs.cell.sound.Statement.{statement}
 use Rattle.table.proofs.cell.sound.Tie as tie
-use Rattle.table.proofs.cell.sound.Reads as reads
-use Rattle.table.proofs.cell.sound.Lts as lts
-use Rattle.table.proofs.cell.board_sound.Reads as board-sound-reads
-use Rattle.table.proofs.cell.current.Reads as current-reads
-use Rattle.table.proofs.cell.masks_at.Reads as masks-at-reads
-use Rattle.table.proofs.cell.masks_sound.Reads as masks-sound-reads
 
 abbrev Inv-loop : tie.InvT-loop
 Inv-loop rule boards cells main copies masks cell m now board₀ board = (board ≤ boards) × ((p : ℕ) → p < board → boardSound rule (m .live) (m .dirty) (m .lock) (getD copies (cell * boards + p) 0) now p ≡ true)
@@ -27,63 +21,48 @@ abbrev μ-loop : tie.MeasureT-loop
 small : (c : tie.In-loop Inv-loop μ-loop) → c .before .before .before .before .before .before .before .before .before .args .cell * c .before .before .before .before .before .before .before .before .before .args .boards + c .before .loop .board < 8192
 small c = copy-small _ _ _ _ _ _ (c .before .before .before .before .before .before .before .before .before .pre .1) _ (c .loop-test .taken)
 
--- src/cell.rt:82:9
 masks-at-requires : tie.Need-masks-at-requires Inv-loop μ-loop
 masks-at-requires c κs = let y = c .before .before .before .pre .1 in (omega (arith, y .inside, y .few-cells), masks-in _ _ _ _ _ _ y)
 
--- src/cell.rt:83:9
 masks-sound-requires : tie.Need-masks-sound-requires Inv-loop μ-loop
 masks-sound-requires c κs = c .before .before .before .before .pre .1 .few-boards
 
--- src/cell.rt:84:9
 returns : tie.Need-returns Inv-loop μ-loop
 returns c = sym (unsound-masks _ _ _ _ _ _ _ (c .before .before .before .before .before .before .pre .0) (c .before .before .before .before .before .before .pre .1) _ _ _ (c .before .before .masks-at .ensures) (sym (c .before .masks-sound .ensures) ∙ not-true _ (c .if1 .taken)))
 
--- src/cell.rt:86:9
 current-requires : tie.Need-current-requires Inv-loop μ-loop
 current-requires c κs = let y = c .before .before .before .before .before .before .pre .1 in (y .few-boards, omega (arith, y .inside, y .few-cells), omega (arith, y .mains, y .inside), row-in _ _ _ _ _ _ y, masks-below _ _ _ _ _ (sym (c .before .masks-sound .ensures) ∙ not-false _ (c .if1 .left)))
 
--- src/cell.rt:88:5
 loop-holds : tie.Need-loop-holds Inv-loop μ-loop
 loop-holds c = (omega arith, λ p l. absurd (omega arith))
 
--- src/cell.rt:89:27
 mul-copy : tie.Need-mul-copy Inv-loop μ-loop
 mul-copy c = omega (arith, small c)
 
--- src/cell.rt:89:27
 add-copy : tie.Need-add-copy Inv-loop μ-loop
 add-copy c = omega (arith, small c)
 
--- src/cell.rt:89:20
 mul-copy-2 : tie.Need-mul-copy-2 Inv-loop μ-loop
 mul-copy-2 c = omega (arith, small c)
 
--- src/cell.rt:89:20
 shared-slice-read-copy : tie.Need-shared-slice-read-copy Inv-loop μ-loop
 shared-slice-read-copy c = copy-in _ _ _ _ _ _ (c .before .before .before .before .before .before .before .before .before .before .pre .1) _ (c .before .loop-test .taken)
 
--- src/cell.rt:90:13
 board-sound-requires : tie.Need-board-sound-requires Inv-loop μ-loop
 board-sound-requires c κs = omega (arith, c .before .before .before .before .before .before .before .before .before .before .pre .1 .few-boards)
 
--- src/cell.rt:91:13
 returns-2 : tie.Need-returns-2 Inv-loop μ-loop
 returns-2 c = sym (unsound-board _ _ _ _ _ _ _ (c .before .before .before .before .before .before .before .before .before .before .before .before .pre .0) (c .before .before .before .before .before .before .before .before .before .before .before .before .pre .1) _ _ _ (c .before .before .before .before .before .before .before .before .masks-at .ensures) (sym (c .before .before .before .before .before .before .before .masks-sound .ensures) ∙ not-false _ (c .before .before .before .before .before .before .if1 .left)) _ (c .before .before .before .before .before .current .ensures) _ (c .before .before .before .loop-test .taken) (sym (c .before .board-sound .ensures) ∙ not-true _ (c .if2 .taken)))
 
--- src/cell.rt:93:9
 add-board : tie.Need-add-board Inv-loop μ-loop
 add-board c = omega arith
 
--- src/cell.rt:88:5
 loop-less : tie.Need-loop-less Inv-loop μ-loop
 loop-less c = omega arith
 
--- src/cell.rt:88:5
 loop-again : tie.Need-loop-again Inv-loop μ-loop
 loop-again c = (omega arith, below-more _ _ (c .before .before .before .before .loop .inv .1) (sym (c .before .board-sound .ensures) ∙ not-false _ (c .if2 .left)))
 
--- src/cell.rt:70:1
 returns-3 : tie.Need-returns-3 Inv-loop μ-loop
 returns-3 c = let e : c .before .before .before .before .before .before .before .before .before .args .boards ≤ c .before .loop .board = c .loop-test .left in
     sym (all-boards _ _ _ _ _ _ _ (c .before .before .before .before .before .before .before .before .before .pre .0) (c .before .before .before .before .before .before .before .before .before .pre .1) _ _ _ (c .before .before .before .before .before .masks-at .ensures) (sym (c .before .before .before .before .masks-sound .ensures) ∙ not-false _ (c .before .before .before .if1 .left)) _ (c .before .before .current .ensures) (λ p l. c .before .loop .inv .1 p (omega arith)))

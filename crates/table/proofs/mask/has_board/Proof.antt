@@ -1,20 +1,16 @@
+-- `has_board` looks at one bit. Assumes nothing.
 use mathlib.Core.Path.{refl}
 use Rattle.protocol.specs.Masks.{hasBoard}
 use borrow.Author.Needs.{needs}
 use Rattle.table.proofs.mask.has_board.Statement.{statement}
 use Rattle.table.proofs.mask.has_board.Tie as tie
-use Rattle.table.proofs.mask.has_board.Reads as reads
-use Rattle.table.proofs.mask.has_board.Lts as lts
 
--- src/mask.rt:12:14
 cast-result : tie.Need-cast-result
 cast-result c = search needs
 
--- src/mask.rt:12:6
 shr-result : tie.Need-shr-result
 shr-result c = search needs
 
--- src/mask.rt:8:1
 returns : tie.Need-returns
 unfolding hasBoard
 returns c = refl

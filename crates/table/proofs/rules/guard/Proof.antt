@@ -6,162 +6,121 @@ use Rattle.table.proofs.CodeLaws.{past}
 use borrow.Author.Needs.{needs}
 use Rattle.table.proofs.rules.guard.Statement.{statement}
 use Rattle.table.proofs.rules.guard.Tie as tie
-use Rattle.table.proofs.rules.guard.Reads as reads
-use Rattle.table.proofs.rules.guard.Lts as lts
-use Rattle.table.proofs.mask.has_another.Reads as has-another-reads
-use Rattle.table.proofs.mask.has_board.Reads as has-board-reads
-use Rattle.table.proofs.rules.refuse.Reads as refuse-reads
 
--- src/rules.rt:44:17
 cast-board : tie.Need-cast-board
 cast-board c = search needs
 
--- src/rules.rt:45:14
 cast-to : tie.Need-cast-to
 cast-to c = search needs
 
--- src/rules.rt:46:9
 has-board-requires : tie.Need-has-board-requires
 has-board-requires c κs = search needs
 
--- src/rules.rt:47:9
 has-board-requires-2 : tie.Need-has-board-requires-2
 has-board-requires-2 c κs = search needs
 
--- src/rules.rt:48:9
 has-board-requires-3 : tie.Need-has-board-requires-3
 has-board-requires-3 c κs = search needs
 
--- src/rules.rt:49:9
 has-another-requires : tie.Need-has-another-requires
 has-another-requires c κs = search needs
 
--- src/rules.rt:50:9
 has-another-requires-2 : tie.Need-has-another-requires-2
 has-another-requires-2 c κs = search needs
 
--- src/rules.rt:51:9
 has-another-requires-3 : tie.Need-has-another-requires-3
 has-another-requires-3 c κs = search needs
 
--- src/rules.rt:53:9
 has-board-requires-4 : tie.Need-has-board-requires-4
 has-board-requires-4 c κs = search needs
 
--- src/rules.rt:56:31
 refuse-requires : tie.Need-refuse-requires
 refuse-requires c κs = search needs
 
--- src/rules.rt:56:14
 refuse-requires-2 : tie.Need-refuse-requires-2
 refuse-requires-2 c κs = search needs
 
--- src/rules.rt:63:17
 refuse-requires-3 : tie.Need-refuse-requires-3
 refuse-requires-3 c κs = search needs
 
--- src/rules.rt:60:13
 refuse-requires-4 : tie.Need-refuse-requires-4
 refuse-requires-4 c κs = search needs
 
--- src/rules.rt:57:14
 refuse-requires-5 : tie.Need-refuse-requires-5
 refuse-requires-5 c κs = search needs
 
--- src/rules.rt:66:14
 refuse-requires-6 : tie.Need-refuse-requires-6
 refuse-requires-6 c κs = search needs
 
--- src/rules.rt:73:17
 refuse-requires-7 : tie.Need-refuse-requires-7
 refuse-requires-7 c κs = search needs
 
--- src/rules.rt:70:13
 refuse-requires-8 : tie.Need-refuse-requires-8
 refuse-requires-8 c κs = search needs
 
--- src/rules.rt:67:14
 refuse-requires-9 : tie.Need-refuse-requires-9
 refuse-requires-9 c κs = search needs
 
--- src/rules.rt:76:14
 refuse-requires-10 : tie.Need-refuse-requires-10
 refuse-requires-10 c κs = search needs
 
--- src/rules.rt:80:33
 refuse-requires-11 : tie.Need-refuse-requires-11
 refuse-requires-11 c κs = search needs
 
--- src/rules.rt:80:13
 refuse-requires-12 : tie.Need-refuse-requires-12
 refuse-requires-12 c κs = search needs
 
--- src/rules.rt:77:14
 refuse-requires-13 : tie.Need-refuse-requires-13
 refuse-requires-13 c κs = search needs
 
--- src/rules.rt:82:14
 refuse-requires-14 : tie.Need-refuse-requires-14
 refuse-requires-14 c κs = search needs
 
--- src/rules.rt:83:35
 refuse-requires-15 : tie.Need-refuse-requires-15
 refuse-requires-15 c κs = search needs
 
--- src/rules.rt:83:14
 refuse-requires-16 : tie.Need-refuse-requires-16
 refuse-requires-16 c κs = search needs
 
--- src/rules.rt:84:14
 refuse-requires-17 : tie.Need-refuse-requires-17
 refuse-requires-17 c κs = search needs
 
--- src/rules.rt:40:1
 returns : tie.Need-returns
 unfolding procOf
 returns c = λ x hl hd ho hs. let m = c .before .before in let A = m .before .before .before .before .before .before .before .before .before .before .before in rw (m .match .keys1, c .refuse2 .ensures, c .before .refuse .ensures, m .before .before .before .before .before .before .before .before .has-board .ensures, ← hl, ← hs) (gives-read x _ _ (A .pre .0))
 
--- src/rules.rt:40:1
 returns-2 : tie.Need-returns-2
 unfolding procOf
 returns-2 c = λ x hl hd ho hs. let m = c .before .before .before in let A = m .before .before .before .before .before .before .before .before .before .before .before in rw (m .match .keys2, c .refuse5 .ensures, c .before .refuse4 .ensures, c .before .before .refuse3 .ensures, m .before .before .before .before .has-another2 .ensures, m .before .before .before .before .before .before .before .has-board2 .ensures, m .before .before .before .before .before .has-another .ensures, m .before .before .before .before .before .before .has-board3 .ensures, ← hd, ← hl, ← ho) (gives-write x _ _ _ (A .pre .0))
 
--- src/rules.rt:40:1
 returns-3 : tie.Need-returns-3
 unfolding procOf
 returns-3 c = λ x hl hd ho hs. let m = c .before in let A = m .before .before .before .before .before .before .before .before .before .before .before in rw (m .match .keys3, c .refuse6 .ensures, m .before .before .before .before .before .before .before .before .has-board .ensures, ← hl) (gives-barrier x _ _ (A .pre .0) (rw (m .match .keys3) at (A .pre .3)))
 
--- src/rules.rt:40:1
 returns-4 : tie.Need-returns-4
 unfolding procOf
 returns-4 c = λ x hl hd ho hs. let m = c .before .before .before in let A = m .before .before .before .before .before .before .before .before .before .before .before in rw (m .match .keys4, c .refuse9 .ensures, c .before .refuse8 .ensures, c .before .before .refuse7 .ensures, m .before .before .before .before .before .before .before .has-board2 .ensures, m .before .before .before .before .has-another2 .ensures, m .before .before .before .has-another3 .ensures, ← hd, ← ho) (gives-mtoc x _ _ (A .pre .0))
 
--- src/rules.rt:40:1
 returns-5 : tie.Need-returns-5
 unfolding procOf
 returns-5 c = λ x hl hd ho hs. let m = c .before in let A = m .before .before .before .before .before .before .before .before .before .before .before in rw (m .match .keys5, c .refuse10 .ensures, m .before .before .before .before .before .before .before .has-board2 .ensures, ← hd) (gives-ctom x _ _ (A .pre .0))
 
--- src/rules.rt:40:1
 returns-6 : tie.Need-returns-6
 unfolding procOf
 returns-6 c = λ x hl hd ho hs. let m = c .before .before .before in let A = m .before .before .before .before .before .before .before .before .before .before .before in rw (m .match .keys6, c .refuse13 .ensures, c .before .refuse12 .ensures, c .before .before .refuse11 .ensures, m .before .has-board4 .ensures, m .before .before .before .before .before .before .before .before .has-board .ensures, ← hd, ← hl, ← ho) (gives-ctoc x _ _ _ (A .pre .0))
 
--- src/rules.rt:40:1
 returns-7 : tie.Need-returns-7
 unfolding procOf
 returns-7 c = λ x hl hd ho hs. let m = c .before in let A = m .before .before .before .before .before .before .before .before .before .before .before in rw (m .match .keys7, c .refuse14 .ensures, m .before .before .before .before .before .before .before .has-board2 .ensures, ← hd) (gives-drop x _ _ (A .pre .0))
 
--- src/rules.rt:40:1
 returns-8 : tie.Need-returns-8
 unfolding procOf
 returns-8 c = λ x hl hd ho hs. let m = c .before .before in let A = m .before .before .before .before .before .before .before .before .before .before .before in rw (m .match .keys8, c .refuse16 .ensures, c .before .refuse15 .ensures, m .before .before .before .before .before .has-another .ensures, ← hl, ← ho) (gives-acquire x _ _ (A .pre .0) (rw (m .match .keys8) at (A .pre .3)))
 
--- src/rules.rt:40:1
 returns-9 : tie.Need-returns-9
 unfolding procOf
 returns-9 c = λ x hl hd ho hs. let m = c .before in let A = m .before .before .before .before .before .before .before .before .before .before .before in rw (m .match .keys9, c .refuse17 .ensures, m .before .before .before .before .before .before .before .has-board2 .ensures, ← hd) (gives-release x _ _ (A .pre .0) (rw (m .match .keys9) at (A .pre .3)))
 
--- src/rules.rt:40:1
 returns-10 : tie.Need-returns-10
 returns-10 c = λ x hl hd ho hs. absurd (omega (arith, past _ (c .match .rest), c .before .before .before .before .before .before .before .before .before .before .before .pre .4))
 

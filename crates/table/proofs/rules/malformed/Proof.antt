@@ -3,10 +3,7 @@ use mathlib.Core.Path.{refl}
 use Rattle.protocol.specs.Step.{malformed}
 use Rattle.table.proofs.rules.malformed.Statement.{statement}
 use Rattle.table.proofs.rules.malformed.Tie as tie
-use Rattle.table.proofs.rules.malformed.Reads as reads
-use Rattle.table.proofs.rules.malformed.Lts as lts
 
--- src/rules.rt:12:1
 returns : tie.Need-returns
 unfolding malformed
 returns c = refl

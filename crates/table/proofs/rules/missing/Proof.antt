@@ -3,10 +3,7 @@ use mathlib.Core.Path.{refl}
 use Rattle.protocol.specs.Step.{missing}
 use Rattle.table.proofs.rules.missing.Statement.{statement}
 use Rattle.table.proofs.rules.missing.Tie as tie
-use Rattle.table.proofs.rules.missing.Reads as reads
-use Rattle.table.proofs.rules.missing.Lts as lts
 
--- src/rules.rt:19:1
 returns : tie.Need-returns
 unfolding missing
 returns c = refl

@@ -4,18 +4,13 @@ use Rattle.protocol.specs.Step.{offBoard}
 use borrow.Author.Needs.{needs}
 use Rattle.table.proofs.rules.off_board.Statement.{statement}
 use Rattle.table.proofs.rules.off_board.Tie as tie
-use Rattle.table.proofs.rules.off_board.Reads as reads
-use Rattle.table.proofs.rules.off_board.Lts as lts
 
--- src/rules.rt:29:16
 cast-result : tie.Need-cast-result
 cast-result c = search needs
 
--- src/rules.rt:29:64
 cast-result-2 : tie.Need-cast-result-2
 cast-result-2 c = search needs
 
--- src/rules.rt:26:1
 returns : tie.Need-returns
 unfolding offBoard
 returns c = refl
