@@ -9,11 +9,11 @@ use Rattle.protocol.specs.Names.{ruleOf}
 use Rattle.protocol.specs.Slices.{tableOf, sizesGood}
 use Rattle.protocol.specs.Cell.{cellOf}
 use Rattle.protocol.specs.Soundness.{sound}
-use Rattle.protocol.specs.Check.{lowestFrom, lowestUnsound}
-use Rattle.protocol.proofs.CheckExactly.{check-1, check-2, check-accepted}
+use Rattle.protocol.specs.Check.{checkAnswer, lowestFrom, lowestUnsound}
+use Rattle.protocol.proofs.CheckExactly.{check-1, check-2, check-accepted, check-value}
 use Rattle.table.specs.declared.Checked.{Checked}
-use Rattle.table.specs.declared.Checked.the-variants.{Refused}
-use Rattle.table.specs.Statements.{numberOf, foundOf, Checks}
+use Rattle.table.specs.declared.Checked.the-variants.{Sound, Unsound, Refused}
+use Rattle.table.specs.Statements.{answerOf, foundOf, Checks}
 
 module _ (rule boards cells : ℕ) (m k w : List ℕ) where
   -- what is left to find, from a cell on
@@ -44,24 +44,31 @@ module _ (rule boards cells : ℕ) (m k w : List ℕ) where
 
   -- ---- the ways out
 
+  valueless : (r : Checked) → answerOf r .value ≡ checkAnswer rule boards cells (tableOf m k w) .value
+  unfolding answerOf
+  valueless Sound = sym (check-value rule boards cells (tableOf m k w))
+  valueless (Unsound c) = sym (check-value rule boards cells (tableOf m k w))
+  valueless (Refused n) = sym (check-value rule boards cells (tableOf m k w))
+
   pub refused-1 : sizesGood boards cells (tableOf m k w) ≡ false → Checks boards cells m k w rule (Refused 1)
-  unfolding numberOf
-  refused-1 s = record { number = sym (check-1 rule boards cells (tableOf m k w) .1 s); accepted = λ e. absurd (omega arith); refused = λ n. refl }
+  unfolding answerOf
+  refused-1 s = record { number = sym (check-1 rule boards cells (tableOf m k w) .1 s); value = valueless (Refused 1); accepted = λ e. absurd (omega arith); refused = λ n. refl }
 
   pub refused-2 : sizesGood boards cells (tableOf m k w) ≡ true → 4 < rule → Checks boards cells m k w rule (Refused 2)
-  unfolding numberOf
-  refused-2 s h = record { number = sym (check-2 rule boards cells (tableOf m k w) .1 (s, h)); accepted = λ e. absurd (omega arith); refused = λ n. refl }
+  unfolding answerOf
+  refused-2 s h = record { number = sym (check-2 rule boards cells (tableOf m k w) .1 (s, h)); value = valueless (Refused 2); accepted = λ e. absurd (omega arith); refused = λ n. refl }
 
-  number-found : (o : Option ℕ) → numberOf (foundOf o) ≡ 0
-  unfolding numberOf foundOf
+  number-found : (o : Option ℕ) → answerOf (foundOf o) .number ≡ 0
+  unfolding answerOf foundOf
   number-found none = refl
   number-found (some c) = refl
 
   pub found : sizesGood boards cells (tableOf m k w) ≡ true → rule ≤ 4 → (r : Checked) → r ≡ foundOf (leftFrom 0) → Checks boards cells m k w rule r
   found s h r e =
-      let z : numberOf r ≡ 0 = ap numberOf e ∙ number-found (leftFrom 0) in
+      let z : answerOf r .number ≡ 0 = ap (λ (c : Checked). answerOf c .number) e ∙ number-found (leftFrom 0) in
       record {
         number = z ∙ sym (check-accepted rule boards cells (tableOf m k w) .1 (s, h));
+        value = valueless r;
         accepted = λ d. e ∙ ap foundOf (sym left-start);
         refused = λ n. absurd (n z);
       }

@@ -1,3 +1,4 @@
+-- The laws and the promises. Assumes nothing.
 pub mod WordLaws
 pub mod FillLaws
 pub mod ReadyLaws

@@ -1,15 +1,14 @@
 -- No two different outcomes meet the statement of a public function. Assumes nothing.
-use mathlib.Core.Path.{_≡_, sym, _∙_}
+use mathlib.Core.Path.{_≡_, sym, ap, _∙_}
 use mathlib.Core.List.{List}
 use Prim.Native.Nat.{ℕ}
 use native.Mathlib.Decide.{ℕ-discrete}
-use mathlib.Core.Path.{ap}
 use Rattle.protocol.specs.declared.Action.{Action}
 use Rattle.protocol.specs.declared.Answer.{Answer}
 use Rattle.protocol.specs.Slices.{Table}
 use Rattle.table.specs.declared.Checked.{Checked}
 use Rattle.table.specs.declared.Checked.the-variants.{Refused}
-use Rattle.table.specs.Statements.{Holds, numberOf, Freshens, Checks, Steps, Same}
+use Rattle.table.specs.Statements.{Holds, answerOf, Freshens, Checks, Steps, Same}
 
 same : (r r′ : Answer) (u : Table) (m m′ k k′ w w′ : List ℕ) → r .number ≡ r′ .number → r .value ≡ r′ .value → Holds u m k w → Holds u m′ k′ w′ → Same r r′ m m′ k k′ w w′
 same r r′ u m m′ k k′ w w′ e v h i =
@@ -28,12 +27,12 @@ module _ (boards cells : ℕ) (m k w : List ℕ) where
       same r r′ _ m₁ m₂ k₁ k₂ w₁ w₂ (f .number ∙ sym (g .number)) (f .value ∙ sym (g .value)) (f .slices) (g .slices)
 
   pub one-check : (rule : ℕ) (r r′ : Checked) → Checks boards cells m k w rule r → Checks boards cells m k w rule r′ → r ≡ r′
-  one-check rule r r′ f g = go (ℕ-discrete (numberOf r) 0)
+  one-check rule r r′ f g = go (ℕ-discrete (answerOf r .number) 0)
     where
-      e : numberOf r ≡ numberOf r′
+      e : answerOf r .number ≡ answerOf r′ .number
       e = f .number ∙ sym (g .number)
 
-      go : Dec (numberOf r ≡ 0) → r ≡ r′
+      go : Dec (answerOf r .number ≡ 0) → r ≡ r′
       go (yes z) = f .accepted z ∙ sym (g .accepted (sym e ∙ z))
       go (no n) = f .refused n ∙ ap Refused e ∙ sym (g .refused (λ z. n (e ∙ z)))
 

@@ -19,11 +19,11 @@ pub record Holds (u : Table) (inMain inCopies inMasks : List ℕ) : Type 0 where
   pub holds-copies : inCopies ≡ u copies
   pub holds-masks : inMasks ≡ u masks
 
--- the paper's number for each case of `Checked`
-unfoldable pub numberOf : Checked → ℕ
-numberOf Sound = 0
-numberOf (Unsound cell) = 0
-numberOf (Refused number) = number
+-- document 01's answer for each case of `Checked`: its number, and its value; the finding stands beside
+unfoldable pub answerOf : Checked → Answer
+answerOf Sound = record { number = 0; value = 0 }
+answerOf (Unsound cell) = record { number = 0; value = 0 }
+answerOf (Refused number) = record { number = number; value = 0 }
 
 -- the case of an accepted check, by its finding
 unfoldable pub foundOf : Option ℕ → Checked
@@ -39,9 +39,10 @@ module _ (boards cells : ℕ) (m k w : List ℕ) where
 
   -- `check`
   pub record Checks (rule : ℕ) (r : Checked) : Type 0 where
-    pub number : numberOf r ≡ checkAnswer rule boards cells (tableOf m k w) .number
-    pub accepted : numberOf r ≡ 0 → r ≡ foundOf (lowestUnsound rule boards cells (tableOf m k w))
-    pub refused : numberOf r ≢ 0 → r ≡ Refused (numberOf r)
+    pub number : answerOf r .number ≡ checkAnswer rule boards cells (tableOf m k w) .number
+    pub value : answerOf r .value ≡ checkAnswer rule boards cells (tableOf m k w) .value
+    pub accepted : answerOf r .number ≡ 0 → r ≡ foundOf (lowestUnsound rule boards cells (tableOf m k w))
+    pub refused : answerOf r .number ≢ 0 → r ≡ Refused (answerOf r .number)
 
   -- `step`
   pub record Steps (rule : ℕ) (a : Action) (r : Answer) (m′ k′ w′ : List ℕ) : Type 0 where

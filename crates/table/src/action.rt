@@ -82,42 +82,52 @@ pub fn perform(
     let dirty = cell * 3 + 1;
     let lock = cell * 3 + 2;
     match code {
+        // Read
         0 => copies[home],
+        // Write
         1 => {
             copies[home] = value;
             mask::mark(masks, live, board);
             mask::mark(masks, dirty, board);
             0
         }
+        // Barrier
         2 => 0,
+        // MtoC
         3 => {
             copies[home] = main[cell];
             mask::mark(masks, live, board);
             0
         }
+        // CtoM
         4 => {
             main[cell] = copies[home];
             mask::unmark(masks, dirty, board);
             0
         }
+        // CtoC
         5 => {
             copies[there] = copies[home];
             mask::mark(masks, live, to);
             0
         }
+        // Drop
         6 => {
             copies[home] = 0;
             mask::unmark(masks, live, board);
             0
         }
+        // Acquire
         7 => {
             mask::mark(masks, lock, board);
             0
         }
+        // Release
         8 => {
             mask::unmark(masks, lock, board);
             0
         }
+        // Not reached: refusal 3 came before.
         9..=255 => 0,
     }
 }

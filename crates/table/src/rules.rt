@@ -53,11 +53,13 @@ pub fn guard(rule: u8, m: Masks, stale: bool, a: Action) -> u8
     let to_dirty = mask::has_board(m.dirty, to);
     let code = a.code;
     match code {
+        // Read
         0 => refuse(
             !live,
             protocol::NOT_LIVE,
             refuse((rule == 1) & stale, protocol::NOT_CURRENT, 0),
         ),
+        // Write
         1 => refuse(
             (rule == 1) & (!dirty & another_dirty),
             protocol::DIRTY_ELSEWHERE,
@@ -67,7 +69,9 @@ pub fn guard(rule: u8, m: Masks, stale: bool, a: Action) -> u8
                 refuse((rule >= 3) & !lock, protocol::LOCK_NOT_HELD, 0),
             ),
         ),
+        // Barrier
         2 => refuse(live, protocol::STILL_LIVE, 0),
+        // MtoC
         3 => refuse(
             dirty,
             protocol::IS_DIRTY,
@@ -77,7 +81,9 @@ pub fn guard(rule: u8, m: Masks, stale: bool, a: Action) -> u8
                 refuse((rule >= 3) & another_lock, protocol::LOCK_BARS, 0),
             ),
         ),
+        // CtoM
         4 => refuse(!dirty, protocol::NOT_DIRTY, 0),
+        // CtoC
         5 => refuse(
             (rule >= 3) & any_lock,
             protocol::LOCK_BARS,
@@ -87,13 +93,17 @@ pub fn guard(rule: u8, m: Masks, stale: bool, a: Action) -> u8
                 refuse(!live, protocol::NOT_LIVE, 0),
             ),
         ),
+        // Drop
         6 => refuse(dirty, protocol::IS_DIRTY, 0),
+        // Acquire
         7 => refuse(
             any_lock,
             protocol::LOCK_BARS,
             refuse(another_live, protocol::ANOTHER_COPY, 0),
         ),
+        // Release
         8 => refuse((rule == 4) & dirty, protocol::IS_DIRTY, 0),
+        // Not reached: refusal 3 came before.
         9..=255 => protocol::MALFORMED,
     }
 }
