@@ -1,0 +1,127 @@
+-- The parts of a run that is not refused, put together. Assumes nothing.
+use mathlib.Core.Path.{_≡_, refl, sym, ap, _∙_, fun-ext}
+use mathlib.Core.Logic.{_≢_}
+use mathlib.Core.Bool.{true}
+use mathlib.Core.List.{List}
+use Prim.Native.Nat.{ℕ, _+_, _-_, _*_, _/_, _≤_}
+use native.Mathlib.Omega.{arith}
+use lib.ListN.{length, getD, length-drop}
+use borrow.Author.Tests.{eq-eqb, ne-eqb}
+use Rattle.protocol.specs.declared.Answer.{Answer}
+use Rattle.protocol.specs.First.{firstNumber}
+use Rattle.protocol.specs.Slices.{Table, tableOf, copies, masks, width, sizesGood}
+use Rattle.protocol.specs.Fresh.{freshTable}
+use Rattle.protocol.proofs.FreshExactly.{fresh-accepted, fresh-sizes}
+use Rattle.protocol.proofs.InWords.{sizes-exactly}
+use Rattle.protocol.proofs.Demand3Order.{end-sizes}
+use Rattle.table.specs.Statements.{Holds, Freshens}
+use Rattle.table.proofs.Promises.{held, fresh-gives}
+use Rattle.sessions.specs.File.{ruleIn, boardsIn, cellsIn, startingIn, recordsIn, actionsIn}
+use Rattle.sessions.specs.FileRefusals.{countIn, runRefusals}
+use Rattle.sessions.specs.Run.{actionsOf, logOf, endOf, staleIn, staleOf}
+use Rattle.sessions.specs.declared.Report.{Report}
+use Rattle.sessions.specs.Statements.{Runs}
+use Rattle.sessions.specs.Code.{Prepared, Counted, Ran, Finished}
+use Rattle.sessions.proofs.AcceptedLaws.{Runnable, few-records}
+use Rattle.sessions.proofs.BytesLaws.{length-values}
+use Rattle.sessions.proofs.RunLaws.{length-actions}
+
+module _ (file m k w numbers values : List ℕ) (ok : Runnable file (tableOf m k w) (length numbers) (length values)) where
+  few-in : length (recordsIn file) / 9 ≡ countIn file
+  few-in = rw (length-drop (9 + 4 * cellsIn file) file)
+
+  few-records-in : countIn file ≤ 4096
+  few-records-in = omega (arith, few-records (length file - (9 + 4 * cellsIn file)) (ok .readable-too .recorded))
+
+  starts : length (startingIn file) ≡ cellsIn file
+  starts = length-values file 9 (cellsIn file)
+
+  pub prepared : (n : ℕ) (records latest : List ℕ) → n ≡ cellsIn file → records ≡ recordsIn file → length latest ≡ n → Prepared n records numbers values latest
+  prepared n records latest e d h = record {
+    few = rw (d, few-in) few-records-in;
+    room-numbers = rw (d, few-in) (ok .roomy-numbers);
+    room-values = rw (d, few-in) (ok .roomy-values);
+    room-latest = omega arith;
+  }
+
+  module _ (n : ℕ) (is-n : n ≡ cellsIn file) (latest₁ : List ℕ) (is-latest : latest₁ ≡ startingIn file) (fresh : Answer) (m₁ k₁ w₁ : List ℕ)
+      (made : Freshens (boardsIn file) n m k w latest₁ fresh m₁ k₁ w₁) where
+    abbrev start : Table
+    start = freshTable (boardsIn file) (startingIn file)
+
+    made′ : Freshens (boardsIn file) (cellsIn file) m k w (startingIn file) fresh m₁ k₁ w₁
+    made′ = rw (is-n, is-latest) at made
+
+    fresh-0 : fresh .number ≡ 0
+    fresh-0 = made′ .number ∙ fresh-accepted (boardsIn file) (cellsIn file) (startingIn file) (tableOf m k w) .1 (ok .sized, starts)
+
+    is-start : tableOf m₁ k₁ w₁ ≡ start
+    is-start = fresh-gives (boardsIn file) (cellsIn file) m k w (startingIn file) fresh m₁ k₁ w₁ made′ fresh-0
+
+    module _ (records : List ℕ) (is-records : records ≡ recordsIn file) (accepted : ℕ) (m₂ k₂ w₂ numbers₂ values₂ latest₂ : List ℕ)
+        (ran : Ran (ruleIn file) (boardsIn file) n m₁ k₁ w₁ numbers values latest₁ (actionsIn records) accepted m₂ k₂ w₂ numbers₂ values₂ latest₂) where
+      ran′ : Ran (ruleIn file) (boardsIn file) (cellsIn file) m₁ k₁ w₁ numbers values (startingIn file) (actionsOf file) accepted m₂ k₂ w₂ numbers₂ values₂ latest₂
+      ran′ = rw (is-n, is-latest, is-records) at ran
+
+      ends : Holds (endOf file) m₂ k₂ w₂
+      unfolding endOf
+      ends = rw is-start at (ran′ .table)
+
+      is-end : tableOf m₂ k₂ w₂ ≡ endOf file
+      is-end = held (endOf file) m₂ k₂ w₂ ends
+
+      end-good : sizesGood (boardsIn file) (cellsIn file) (endOf file) ≡ true
+      unfolding endOf
+      end-good = let g = ok .readable-too .sizes in end-sizes (ruleIn file) (boardsIn file) (cellsIn file) start (actionsOf file) ∙ rw starts at (fresh-sizes (boardsIn file) (startingIn file) ((g .some-boards, g .few-boards), (rw starts (g .some-cells), rw starts (g .few-cells))))
+
+      counted : length (actionsOf file) ≡ countIn file
+      counted = length-actions (recordsIn file) 0 (length (recordsIn file) / 9) ∙ few-in
+
+      pub countable : Counted (boardsIn file) n k₂ w₂ latest₂
+      unfolding width
+      countable =
+          let lengths = sizes-exactly (boardsIn file) (cellsIn file) (endOf file) .0 end-good .1 in
+          record {
+            few-boards = ok .readable-too .sizes .few-boards;
+            few-cells = rw is-n (ok .readable-too .sizes .few-cells);
+            copied = rw (is-n, ends .holds-copies) (lengths copies);
+            masked = rw (is-n, ends .holds-masks) (lengths masks);
+            known = rw (ran .same-length, is-n, is-latest, starts) (omega arith);
+          }
+
+      pub finished : (stale : ℕ) →
+          ((main : List ℕ) → sizesGood (boardsIn file) n (tableOf main k₂ w₂) ≡ true → stale ≡ staleIn (boardsIn file) n (tableOf main k₂ w₂) (λ c. getD latest₂ c 0)) →
+          Finished file numbers values (record { number = fresh .number; accepted = accepted; stale = stale }) m₂ k₂ w₂ numbers₂ values₂
+      unfolding logOf staleOf
+      finished stale s = record {
+        number-is = fresh-0;
+        accepted-is = rw is-start at (ran′ .accepted);
+        stale-is =
+            rw is-n at (s m₂ (rw (is-n, is-end) end-good))
+            ∙ rw is-end (ap (staleIn (boardsIn file) (cellsIn file) (endOf file)) (fun-ext (λ c. rw is-start at (ran′ .latest-are c))));
+        table-is = ends;
+        numbers-are = rw (is-start, counted) at (ran′ .numbers-are);
+        values-are = rw (is-start, counted) at (ran′ .values-are);
+      }
+
+-- ---- a run is refused, or finished
+
+module _ (file m k w numbers values : List ℕ) where
+  pub refused : (number : ℕ) → number ≡ firstNumber (runRefusals file (tableOf m k w) (length numbers) (length values)) → number ≢ 0 →
+      Runs file m k w numbers values (record { number = number; accepted = 0; stale = 0 }) m k w numbers values
+  refused number e h =
+      let z = ne-eqb number 0 h in
+      record { number-is = e; accepted-is = rw z; stale-is = rw z; table-is = rw z (record { holds-main = refl; holds-copies = refl; holds-masks = refl }); numbers-are = rw z; values-are = rw z }
+
+  pub done : (r : Report) (m′ k′ w′ numbers′ values′ : List ℕ) → firstNumber (runRefusals file (tableOf m k w) (length numbers) (length values)) ≡ 0 →
+      Finished file numbers values r m′ k′ w′ numbers′ values′ → Runs file m k w numbers values r m′ k′ w′ numbers′ values′
+  done r m′ k′ w′ numbers′ values′ e f =
+      let z = eq-eqb (r .number) 0 (f .number-is) in
+      record {
+        number-is = f .number-is ∙ sym e;
+        accepted-is = rw z (f .accepted-is);
+        stale-is = rw z (f .stale-is);
+        table-is = rw z (f .table-is);
+        numbers-are = rw z (f .numbers-are);
+        values-are = rw z (f .values-are);
+      }

@@ -1,0 +1,48 @@
+-- No two different outcomes meet the statement of a public function. Assumes nothing.
+use mathlib.Core.Path.{_≡_, sym, ap, _∙_}
+use mathlib.Core.List.{List}
+use Prim.Native.Nat.{ℕ}
+use Rattle.protocol.specs.declared.Answer.{Answer}
+use Rattle.sessions.specs.declared.Report.{Report}
+use Rattle.sessions.specs.Statements.{accepting, Reads, Writes, Runs, SameRead, SameWrite, SameRun}
+
+-- what follows from the number is the same where the number is
+by-number : {A : Type 0} (n n′ : ℕ) (a b x y : A) → n ≡ n′ → x ≡ accepting n a b → y ≡ accepting n′ a b → x ≡ y
+by-number {A = A} n n′ a b x y e p q = p ∙ ap (λ (k : ℕ). accepting {A = A} k a b) e ∙ sym q
+
+pub one-read : (file old records records′ : List ℕ) (number number′ rule rule′ boards boards′ cells cells′ : ℕ) (starting starting′ : List ℕ) →
+    Reads file old records number rule boards cells starting → Reads file old records′ number′ rule′ boards′ cells′ starting′ →
+    SameRead records records′ number number′ rule rule′ boards boards′ cells cells′ starting starting′
+one-read file old records records′ number number′ rule rule′ boards boards′ cells cells′ starting starting′ f g =
+    let e = f .number-is ∙ sym (g .number-is) in
+    record {
+      same-number = e;
+      same-rule = by-number number number′ _ _ rule rule′ e (f .rule-is) (g .rule-is);
+      same-boards = by-number number number′ _ _ boards boards′ e (f .boards-is) (g .boards-is);
+      same-cells = by-number number number′ _ _ cells cells′ e (f .cells-is) (g .cells-is);
+      same-records = by-number number number′ _ _ records records′ e (f .part) (g .part);
+      same-starting = by-number number number′ _ _ starting starting′ e (f .filled) (g .filled);
+    }
+
+pub one-write : (rule boards cells : ℕ) (starting records old : List ℕ) (r r′ : Answer) (out out′ : List ℕ) →
+    Writes rule boards cells starting records old r out → Writes rule boards cells starting records old r′ out′ → SameWrite r r′ out out′
+one-write rule boards cells starting records old r r′ out out′ f g =
+    let e = f .number-is ∙ sym (g .number-is) in
+    record { same-number = e; same-value = f .value-is ∙ sym (g .value-is); same-out = by-number (r .number) (r′ .number) _ _ out out′ e (f .bytes) (g .bytes) }
+
+pub one-run : (file m k w numbers values : List ℕ) (r r′ : Report) (m₁ m₂ k₁ k₂ w₁ w₂ numbers₁ numbers₂ values₁ values₂ : List ℕ) →
+    Runs file m k w numbers values r m₁ k₁ w₁ numbers₁ values₁ → Runs file m k w numbers values r′ m₂ k₂ w₂ numbers₂ values₂ →
+    SameRun r r′ m₁ m₂ k₁ k₂ w₁ w₂ numbers₁ numbers₂ values₁ values₂
+one-run file m k w numbers values r r′ m₁ m₂ k₁ k₂ w₁ w₂ numbers₁ numbers₂ values₁ values₂ f g =
+    let e = f .number-is ∙ sym (g .number-is) in
+    let h = rw e at (f .table-is) in
+    record {
+      same-number = e;
+      same-accepted = by-number (r .number) (r′ .number) _ _ (r .accepted) (r′ .accepted) e (f .accepted-is) (g .accepted-is);
+      same-stale = by-number (r .number) (r′ .number) _ _ (r .stale) (r′ .stale) e (f .stale-is) (g .stale-is);
+      same-main = h .holds-main ∙ sym (g .table-is .holds-main);
+      same-copies = h .holds-copies ∙ sym (g .table-is .holds-copies);
+      same-masks = h .holds-masks ∙ sym (g .table-is .holds-masks);
+      same-numbers = by-number (r .number) (r′ .number) _ _ numbers₁ numbers₂ e (f .numbers-are) (g .numbers-are);
+      same-values = by-number (r .number) (r′ .number) _ _ values₁ values₂ e (f .values-are) (g .values-are);
+    }

@@ -1,0 +1,12 @@
+-- `in_range` is the range of the sizes. Assumes nothing.
+use mathlib.Core.Path.{refl}
+use Rattle.protocol.specs.Slices.{inRange}
+use Rattle.sessions.proofs.refusals.in_range.Statement.{statement}
+use Rattle.sessions.proofs.refusals.in_range.Tie as tie
+
+returns : tie.Need-returns
+unfolding inRange
+returns c = refl
+
+pub in-range-spec : {M : Type 1} → statement M
+in-range-spec = tie.close (tie.spec returns)

@@ -1,0 +1,60 @@
+-- `with_latest` lends a place for each cell. Assumes nothing.
+use mathlib.Core.Path.{sym, _∙_}
+use Prim.Native.Nat.{_≤_}
+use lib.Seq.{length-take-le}
+use Rattle.sessions.proofs.AcceptedLaws.{runnable}
+use borrow.Author.Needs.{needs}
+use Rattle.sessions.proofs.runner.with_latest.Statement.{statement}
+use Rattle.sessions.proofs.runner.with_latest.Tie as tie
+
+few : (c : tie.After-read16) → c .read16 .result ≤ 512
+few c = rw (c .read16 .ensures) ((runnable _ _ _ _ (c .before .before .before .before .before .before .before .pre)) .readable-too .sizes .few-cells)
+
+read16-requires : tie.Need-read16-requires
+read16-requires c κs = (runnable _ _ _ _ (c .before .before .before .before .before .before .pre)) .readable-too .headed-whole
+
+cast-cells : tie.Need-cast-cells
+cast-cells c = search needs
+
+array-borrow-prefix-latest : tie.Need-array-borrow-prefix-latest
+array-borrow-prefix-latest c = few (c .before .before .before .before .before)
+
+slice-aggregate-perform : tie.Need-slice-aggregate-perform
+slice-aggregate-perform c = sym (length-take-le _ _ (few (c .before .before .before .before .before .before)))
+
+perform-requires : tie.Need-perform-requires
+perform-requires c κs = (c .before .before .before .before .before .before .before .before .before .before .before .before .before .pre, length-take-le _ _ (few (c .before .before .before .before .before .before)) ∙ c .before .before .before .before .before .before .read16 .ensures)
+
+same-length : tie.Need-same-length
+same-length c = search needs
+
+same-length-2 : tie.Need-same-length-2
+same-length-2 c = search needs
+
+same-length-3 : tie.Need-same-length-3
+same-length-3 c = search needs
+
+same-length-4 : tie.Need-same-length-4
+same-length-4 c = search needs
+
+same-length-5 : tie.Need-same-length-5
+same-length-5 c = search needs
+
+returns : tie.Need-returns
+returns c = search needs
+
+pub with-latest-spec : {M : Type 1} → statement M
+with-latest-spec =
+    tie.close
+    (tie.spec
+    read16-requires
+    cast-cells
+    array-borrow-prefix-latest
+    slice-aggregate-perform
+    perform-requires
+    same-length
+    same-length-2
+    same-length-3
+    same-length-4
+    same-length-5
+    returns)

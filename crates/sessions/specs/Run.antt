@@ -1,0 +1,46 @@
+-- The run of a session file: "makes a fresh table from the file .. and performs its records in order", and its two counts. Assumes nothing.
+use mathlib.Core.Bool.{Bool, cond, not, _&&_}
+use mathlib.Core.List.{List, [], _∷_}
+use Prim.Native.Nat.{ℕ, zero, suc, _+_}
+use lib.Dec.{eqb}
+use lib.ListN.{getD}
+use Rattle.protocol.specs.declared.Action.{Action}
+use Rattle.protocol.specs.Masks.{hasBoard}
+use Rattle.protocol.specs.Slices.{Table}
+use Rattle.protocol.specs.Cell.{copyAt, liveMask, cellOf}
+use Rattle.protocol.specs.Fresh.{freshTable}
+use Rattle.protocol.specs.Runs.{Line, log, tableAfterAll, latestWrite}
+use Rattle.sessions.specs.File.{ruleIn, boardsIn, cellsIn, startingIn, recordsIn, actionsIn}
+
+-- the records of a file as actions, the table at the end, and the log
+abbrev pub actionsOf : (file : List ℕ) → List Action
+actionsOf file = actionsIn (recordsIn file)
+
+unfoldable pub endOf : (file : List ℕ) → Table
+endOf file = tableAfterAll (ruleIn file) (boardsIn file) (cellsIn file) (freshTable (boardsIn file) (startingIn file)) (actionsOf file)
+
+unfoldable pub logOf : (file : List ℕ) → List Line
+logOf file = log (ruleIn file) (boardsIn file) (cellsIn file) (freshTable (boardsIn file) (startingIn file)) (actionsOf file)
+
+-- "accepted records"
+unfoldable pub acceptedIn : List Line → ℕ
+acceptedIn [] = 0
+acceptedIn (l ∷ ls) = cond (eqb (l .told .number) 0) 1 0 + acceptedIn ls
+
+-- how many of the numbers below n pass a test, and the sum of a count over them
+unfoldable pub countBelow : (n : ℕ) → (ℕ → Bool) → ℕ
+countBelow zero test = 0
+countBelow (suc n) test = cond (test n) 1 0 + countBelow n test
+
+unfoldable pub sumBelow : (n : ℕ) → (ℕ → ℕ) → ℕ
+sumBelow zero count = 0
+sumBelow (suc n) count = count n + sumBelow n count
+
+-- "A copy is stale at the end when it is live and its value differs from the latest accepted write to its cell in this session, or from the
+-- starting value where there is none": latest gives that of each cell
+unfoldable pub staleIn : (boards cells : ℕ) → Table → (latest : ℕ → ℕ) → ℕ
+staleIn boards cells t latest =
+    sumBelow cells (λ c. countBelow boards (λ p. hasBoard (liveMask (cellOf boards cells t c)) p && not (eqb (copyAt (cellOf boards cells t c) p) (latest c))))
+
+unfoldable pub staleOf : (file : List ℕ) → ℕ
+staleOf file = staleIn (boardsIn file) (cellsIn file) (endOf file) (λ c. latestWrite c (getD (startingIn file) c 0) (logOf file))

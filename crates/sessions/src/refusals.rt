@@ -1,0 +1,75 @@
+// What refuses a session file, in the order in which it is judged: its first nine bytes, then its sizes, its rule and its body.
+ghost use mathlib.Core.Path.{_≡_};
+ghost use Prim.Native.Nat.{_<_, _≤_};
+ghost use lib.ListN.{length};
+ghost use Rattle.protocol.specs.First.{firstNumber};
+ghost use Rattle.protocol.specs.Slices.{inRange};
+ghost use Rattle.sessions.specs.File.{marked, cellsIn};
+ghost use Rattle.sessions.specs.FileRefusals.{headRefusals, bodyRefusals, recordsBad, bodyBad};
+use crate::bytes;
+
+// The file begins with the mark.
+fn is_marked(file: &[u8]) -> bool
+    requires { ⌜ 3 ≤ length (now file) ⌝ }
+    ensures { λ r. ⌜ r ≡ marked (now (file .entry)) ⌝ }
+{
+    (file[0] == bytes::MARK[0]) & ((file[1] == bytes::MARK[1]) & (file[2] == bytes::MARK[2]))
+}
+
+// Too short for its first nine bytes, no mark, or another version.
+pub fn head_refusal(file: &[u8]) -> u8
+    ensures { λ r. ⌜ r ≡ firstNumber (headRefusals (now (file .entry))) ⌝ }
+{
+    if file.len() < 9 {
+        return protocol::WRONG_LENGTH;
+    }
+    if !is_marked(file) {
+        return protocol::WRONG_MARK;
+    }
+    if bytes::read16(file, 3) != 1 {
+        return protocol::WRONG_VERSION;
+    }
+    protocol::ACCEPTED
+}
+
+// P is 1 to 16, and N is 1 to 512.
+pub fn in_range(boards: usize, cells: usize) -> bool
+    ensures { λ r. ⌜ r ≡ inRange boards cells ⌝ }
+{
+    ((1 <= boards) & (boards <= 16)) & ((1 <= cells) & (cells <= 512))
+}
+
+// So many bytes are no whole records, or too many.
+pub fn records_bad(n: usize) -> bool
+    ensures { λ r. ⌜ r ≡ recordsBad n ⌝ }
+{
+    (n % 9 != 0) | (4096 < n / 9)
+}
+
+// The starting values are cut off, or the records behind them are bad.
+pub fn body_bad(file: &[u8], cells: usize) -> bool
+    requires { ⌜ (cells ≡ cellsIn (now file)) × (cells < 65536) ⌝ }
+    ensures { λ r. ⌜ r ≡ bodyBad (now (file .entry)) ⌝ }
+{
+    let from = 9 + 4 * cells;
+    if file.len() < from {
+        return true;
+    }
+    records_bad(file.len() - from)
+}
+
+// Bad sizes, no such rule, or a bad body: the two tests say whether they are bad.
+pub fn body_refusal(sizes: bool, rule: u8, body: bool) -> u8
+    ensures { λ r. ⌜ r ≡ firstNumber (bodyRefusals sizes rule body) ⌝ }
+{
+    if sizes {
+        return protocol::BAD_SIZES;
+    }
+    if rule > 4 {
+        return protocol::BAD_RULE;
+    }
+    if body {
+        return protocol::WRONG_LENGTH;
+    }
+    protocol::ACCEPTED
+}

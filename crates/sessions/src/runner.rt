@@ -1,0 +1,114 @@
+// The run of a session file: what stands against it, and what it does.
+ghost use mathlib.Core.Path.{_≡_};
+ghost use lib.ListN.{length};
+ghost use Rattle.protocol.specs.First.{firstNumber};
+ghost use Rattle.protocol.specs.Slices.{tableOf, sizesGood};
+ghost use Rattle.sessions.specs.File.{cellsIn};
+ghost use Rattle.sessions.specs.FileRefusals.{runRefusals};
+ghost use Rattle.sessions.specs.Code.{Finished};
+use crate::Report;
+use crate::bytes;
+use crate::records;
+use crate::refusals;
+use crate::stale;
+
+// P and N are in range, and the lent table's lengths are right.
+fn table_fits(boards: usize, cells: usize, main: &[u32], copies: &[u32], masks: &[u16]) -> bool
+    ensures { λ r. ⌜ r ≡ sizesGood boards cells (tableOf (now (main .entry)) (now (copies .entry)) (now (masks .entry))) ⌝ }
+{
+    if !refusals::in_range(boards, cells) {
+        return false;
+    }
+    (main.len() == cells) & ((copies.len() == cells * boards) & (masks.len() == cells * 3))
+}
+
+// The number that refuses a run, or 0.
+pub fn refusal(
+    file: &[u8],
+    main: &[u32],
+    copies: &[u32],
+    masks: &[u16],
+    numbers: usize,
+    values: usize,
+) -> u8
+    ensures { λ r. ⌜ r ≡ firstNumber (runRefusals (now (file .entry)) (tableOf (now (main .entry)) (now (copies .entry)) (now (masks .entry))) numbers values) ⌝ }
+{
+    let head = refusals::head_refusal(file);
+    if head != protocol::ACCEPTED {
+        return head;
+    }
+    let boards = file[6] as usize;
+    let cells = bytes::read16(file, 7) as usize;
+    let fits = table_fits(boards, cells, main, copies, masks);
+    let body = refusals::body_refusal(!fits, file[5], refusals::body_bad(file, cells));
+    if body != protocol::ACCEPTED {
+        return body;
+    }
+    let count = (file.len() - (9 + 4 * cells)) / 9;
+    if (numbers < count) | (values < count) {
+        return protocol::NO_ROOM;
+    }
+    protocol::ACCEPTED
+}
+
+// The run of a file that is not refused; `latest` has a place for each cell.
+fn perform(
+    file: &[u8],
+    main: &mut [u32],
+    copies: &mut [u32],
+    masks: &mut [u16],
+    numbers: &mut [u8],
+    values: &mut [u32],
+    latest: &mut [u32],
+) -> Report
+    requires { ⌜ (firstNumber (runRefusals (now file) (tableOf (now main) (now copies) (now masks)) (length (now numbers)) (length (now values))) ≡ 0) × (length (now latest) ≡ cellsIn (now file)) ⌝ }
+    ensures { λ r. ⌜ Finished (now (file .entry)) (now (numbers .entry)) (now (values .entry)) r (now (main .exit)) (now (copies .exit)) (now (masks .exit)) (now (numbers .exit)) (now (values .exit)) ⌝ }
+{
+    let boards = file[6] as usize;
+    let cells = bytes::read16(file, 7) as usize;
+    bytes::read_values(file, 9, latest);
+    let fresh = table::fresh(boards, cells, latest, main, copies, masks);
+    let accepted = records::perform_all(
+        file[5],
+        boards,
+        cells,
+        bytes::tail(file, 9 + 4 * cells),
+        main,
+        copies,
+        masks,
+        numbers,
+        values,
+        latest,
+    );
+    // `fresh` cannot refuse: the sizes were judged.
+    Report {
+        number: fresh.number,
+        accepted,
+        stale: stale::count(boards, cells, copies, masks, latest),
+    }
+}
+
+// The same, with the one local buffer: the latest accepted write to each cell.
+pub fn with_latest(
+    file: &[u8],
+    main: &mut [u32],
+    copies: &mut [u32],
+    masks: &mut [u16],
+    numbers: &mut [u8],
+    values: &mut [u32],
+) -> Report
+    requires { ⌜ firstNumber (runRefusals (now file) (tableOf (now main) (now copies) (now masks)) (length (now numbers)) (length (now values))) ≡ 0 ⌝ }
+    ensures { λ r. ⌜ Finished (now (file .entry)) (now (numbers .entry)) (now (values .entry)) r (now (main .exit)) (now (copies .exit)) (now (masks .exit)) (now (numbers .exit)) (now (values .exit)) ⌝ }
+{
+    let cells = bytes::read16(file, 7) as usize;
+    let mut latest = [0u32; 512];
+    perform(
+        file,
+        main,
+        copies,
+        masks,
+        numbers,
+        values,
+        &mut latest[..cells],
+    )
+}
