@@ -42,7 +42,7 @@ none-summed (suc n) count h = rw (h n, none-summed n count h)
 -- ---- lines of a log
 
 -- what stands where a log has no line
-abbrev noLine : Line
+abbrev pub noLine : Line
 noLine = record { action = actionAt [] 0; told = record { number = 0; value = 0 } }
 
 -- no line tells 7 where no earlier table does
@@ -94,7 +94,7 @@ module _ (file : List ℕ) where
       fresh-copy c p m true e = rw (eq-eqb (copyAt (x c) p) (latest c) (rw starts at (live-is-latest (ruleIn file) (boardsIn file) (startingIn file) (actionsOf file) l h c p m) e))
       fresh-copy c p m false e = refl
 
-  logged : length (logOf file) ≡ countIn file
+  pub logged : length (logOf file) ≡ countIn file
   unfolding logOf
   logged =
       length-log (ruleIn file) (boardsIn file) (cellsIn file) (freshTable (boardsIn file) (startingIn file)) (actionsOf file)
@@ -102,7 +102,7 @@ module _ (file : List ℕ) where
       ∙ rw (length-drop (9 + 4 * cellsIn file) file)
 
   -- the line of the i-th record
-  lineAt : (i : ℕ) → Line
+  unfoldable pub lineAt : (i : ℕ) → Line
   lineAt i = getD (logOf file) i noLine
 
   session-never-7 : (i : ℕ) → lineAt i .told .number ≢ 7
@@ -111,7 +111,7 @@ module _ (file : List ℕ) where
       none-told-7 (ruleIn file) (boardsIn file) (cellsIn file) (freshTable (boardsIn file) (startingIn file)) (actionsOf file)
       (λ earlier. rw starts at (never-7 (ruleIn file) (boardsIn file) (startingIn file) earlier))
 
-  its-action : (i : ℕ) → i < countIn file → lineAt i .action ≡ actionAt (recordsIn file) (9 * i)
+  pub its-action : (i : ℕ) → i < countIn file → lineAt i .action ≡ actionAt (recordsIn file) (9 * i)
   unfolding lineAt logOf
   its-action i h =
       let e : 0 + 9 * i ≡ 9 * i = omega arith in
@@ -125,7 +125,7 @@ module _ (file : List ℕ) where
 -- ---- of a run that is not refused
 
 module _ (file m k w numbers values : List ℕ) (r : Report) (m′ k′ w′ numbers′ values′ : List ℕ) (s : Runs file m k w numbers values r m′ k′ w′ numbers′ values′) (ok : r .number ≡ 0) where
-  in-slice : (f : Line → ℕ) (old new : List ℕ) → new ≡ accepting (r .number) (map f (logOf file) ++ drop (countIn file) old) old → (i : ℕ) → i < countIn file → getD new i 0 ≡ f (lineAt file i)
+  pub in-slice : (f : Line → ℕ) (old new : List ℕ) → new ≡ accepting (r .number) (map f (logOf file) ++ drop (countIn file) old) old → (i : ℕ) → i < countIn file → getD new i 0 ≡ f (lineAt file i)
   unfolding lineAt
   in-slice f old new e i h = rw (e, eq-eqb (r .number) 0 ok) (getD-front f (logOf file) (drop (countIn file) old) i (rw (logged file) h))
 

@@ -15,7 +15,7 @@ unfolding written
 written-none at old = rw add-zero (sym (take-append-drop at old))
 
 -- one run behind another
-written-more : (ds es : List ℕ) (at : ℕ) (old : List ℕ) → at + length ds + length es ≤ length old → written es (at + length ds) (written ds at old) ≡ written (ds ++ es) at old
+pub written-more : (ds es : List ℕ) (at : ℕ) (old : List ℕ) → at + length ds + length es ≤ length old → written es (at + length ds) (written ds at old) ≡ written (ds ++ es) at old
 unfolding written
 written-more ds es at old h =
     let p = take at old ++ ds in
@@ -30,7 +30,7 @@ written-more ds es at old h =
     rw (w, t, d) (simp append-assoc)
 
 -- one byte behind a run
-write-one : (ds : List ℕ) (v at : ℕ) (old : List ℕ) → at + length ds < length old → set (written ds at old) (at + length ds) v ≡ written (ds ++ (v ∷ [])) at old
+pub write-one : (ds : List ℕ) (v at : ℕ) (old : List ℕ) → at + length ds < length old → set (written ds at old) (at + length ds) v ≡ written (ds ++ (v ∷ [])) at old
 unfolding written
 write-one ds v at old h =
     let n : length (take at old ++ ds) ≡ at + length ds = rw (length-append, length-take-le at old (omega arith)) in
@@ -45,7 +45,7 @@ write-one ds v at old h =
     (simp append-assoc)
 
 -- stores in a row
-stores : (vs : List ℕ) (at : ℕ) (old : List ℕ) → at + length vs ≤ length old → sets old at vs ≡ written vs at old
+pub stores : (vs : List ℕ) (at : ℕ) (old : List ℕ) → at + length vs ≤ length old → sets old at vs ≡ written vs at old
 unfolding written
 stores vs at old h = sets-eq vs old at h ∙ append-assoc (take at old) vs (drop (at + length vs) old)
 
@@ -93,7 +93,7 @@ unfolding fileOf headed
 length-file rule boards cells starting records = rw (length-append, length-append (packed starting) records, length-packed) (omega arith)
 
 -- at the start
-in-front : (ds old : List ℕ) → written ds 0 old ≡ ds ++ drop (length ds) old
+pub in-front : (ds old : List ℕ) → written ds 0 old ≡ ds ++ drop (length ds) old
 unfolding written
 in-front ds old = let z : 0 + length ds ≡ length ds = omega arith in rw z
 

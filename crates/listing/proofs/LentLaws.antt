@@ -1,0 +1,139 @@
+-- The local memory fits: the run over it is refused as the reader refuses, and what a run that is not refused has told. Assumes nothing.
+use mathlib.Core.Path.{_≡_, refl, ap, sym, _∙_}
+use mathlib.Core.Bool.{Bool, true, false, cond, not, _||_}
+use mathlib.Core.List.{List}
+use Prim.Native.Nat.{ℕ, _+_, _-_, _*_, _/_, _%_, _<_, _≤_}
+use native.Mathlib.Omega.{arith}
+use native.Mathlib.Decide.{decLt}
+use native.Mathlib.Nat.{mul-le-mul-left}
+use borrow.Author.Tests.{lt-ltb, le-ltb, eq-eqb, ltb-false}
+use lib.Dec.{eqb, ltb}
+use lib.ListN.{length, getD}
+use lib.Seq.{getD-drop}
+use Rattle.protocol.specs.declared.Action.{Action}
+use Rattle.protocol.specs.First.{firstNumber}
+use Rattle.protocol.specs.Slices.{Table, tableOf, width, every, inRange, sizesGood}
+use Rattle.protocol.proofs.Booleans.{clash, or-left, or-right}
+use Rattle.protocol.proofs.InWords.{range-exactly}
+use Rattle.sessions.specs.File.{marked, versionIn, ruleIn, boardsIn, cellsIn, actionAt}
+use Rattle.sessions.specs.FileRefusals.{headRefusals, bodyRefusals, recordsBad, bodyBad, readRefusals, countIn, runRefusals}
+use Rattle.sessions.specs.Statements.{Runs}
+use Rattle.sessions.specs.declared.Report.{Report}
+use Rattle.sessions.proofs.AcceptedLaws.{readable}
+use Rattle.sessions.proofs.RunPromises.{logged, lineAt, its-action, in-slice}
+use Rattle.listing.specs.Listing.{refusalOf}
+use Rattle.listing.specs.Code.{lineOfRecord, RunTold, Lent, Sized}
+
+-- ---- the refusals
+
+or-none : (x : Bool) → (x || false) ≡ x
+or-none true = refl
+or-none false = refl
+
+-- the two lists: the same conditions, then a room that is enough
+same-order : (short mark version sizes ruled body room : Bool) → (body ≡ false → room ≡ false) →
+    _≡_ {A = ℕ} (cond short 19 (cond mark 17 (cond version 18 (cond sizes 1 (cond ruled 2 (cond body 19 (cond room 20 0)))))))
+    (cond short 19 (cond mark 17 (cond version 18 (cond sizes 1 (cond ruled 2 (cond body 19 0))))))
+same-order short mark version sizes ruled true room h = refl
+same-order short mark version sizes ruled false room h = rw (h refl)
+
+few-records-in : (n : ℕ) → recordsBad n ≡ false → n / 9 ≤ 4096
+unfolding recordsBad
+few-records-in n e = ltb-false 4096 (n / 9) (or-right (not (eqb (n % 9) 0)) (ltb 4096 (n / 9)) e)
+
+few-in : (file : List ℕ) → bodyBad file ≡ false → countIn file ≤ 4096
+unfolding bodyBad
+few-in file e =
+    let n = length file - (9 + 4 * cellsIn file) in
+    few-records-in n (or-right (ltb (length file) (9 + 4 * cellsIn file)) (recordsBad n) e)
+
+module _ (file : List ℕ) (t : Table) (numbers values : ℕ) (fits : Sized file t) (a : 4096 ≤ numbers) (b : 4096 ≤ values) where
+  enough : bodyBad file ≡ false → (ltb numbers (countIn file) || ltb values (countIn file)) ≡ false
+  enough e = let f = few-in file e in rw (le-ltb numbers (countIn file) (omega arith), le-ltb values (countIn file) (omega arith))
+
+  pub refused-alike : firstNumber (runRefusals file t numbers values) ≡ refusalOf file
+  unfolding runRefusals readRefusals headRefusals bodyRefusals
+  refused-alike = go (decLt (length file) 9)
+    where
+      go : Dec (length file < 9) → firstNumber (runRefusals file t numbers values) ≡ refusalOf file
+      go (yes h) = rw (lt-ltb (length file) 9 h)
+      go (no h) =
+          let s : sizesGood (boardsIn file) (cellsIn file) t ≡ inRange (boardsIn file) (cellsIn file) = fits (omega arith) in
+          let same : (not (inRange (boardsIn file) (cellsIn file)) || not (eqb (cellsIn file) (cellsIn file))) ≡ not (inRange (boardsIn file) (cellsIn file)) = rw (eq-eqb (cellsIn file) (cellsIn file) refl) (or-none (not (inRange (boardsIn file) (cellsIn file)))) in
+          rw (s, same)
+          (same-order (ltb (length file) 9) (not (marked file)) (not (eqb (versionIn file) 1)) (not (inRange (boardsIn file) (cellsIn file))) (ltb 4 (ruleIn file)) (bodyBad file) (ltb numbers (countIn file) || ltb values (countIn file)) enough)
+
+-- ---- what is lent
+
+module _ (file : List ℕ) (boards cells : ℕ) (p : boards ≡ boardsIn file) (n : cells ≡ cellsIn file) where
+  pub out-of-range : (ltb 16 boards || ltb 512 cells) ≡ true → Lent file 0 0
+  out-of-range h = record {
+    few-boards = omega arith;
+    few-cells = omega arith;
+    right = λ l e.
+        let r = range-exactly (boardsIn file) (cellsIn file) .0 e in
+        let x : ltb 16 boards ≡ false = le-ltb 16 boards (omega (arith, r .0 .1)) in
+        let y : ltb 512 cells ≡ false = le-ltb 512 cells (omega (arith, r .1 .1)) in
+        absurd (clash h (rw (x, y)));
+  }
+
+  pub in-range : (ltb 16 boards || ltb 512 cells) ≡ false → Lent file boards cells
+  in-range h = record {
+    few-boards = ltb-false 16 boards (or-left (ltb 16 boards) (ltb 512 cells) h);
+    few-cells = ltb-false 512 cells (or-right (ltb 16 boards) (ltb 512 cells) h);
+    right = λ l e. (p, n);
+  }
+
+module _ (file : List ℕ) (boards cells : ℕ) (l : Lent file boards cells) (m k w : List ℕ) (a : length m ≡ cells) (b : length k ≡ cells * boards) (c : length w ≡ cells * 3) where
+  pub fitting : Sized file (tableOf m k w)
+  unfolding sizesGood every width
+  fitting h = go (inRange (boardsIn file) (cellsIn file)) refl
+    where
+      go : (x : Bool) → inRange (boardsIn file) (cellsIn file) ≡ x → sizesGood (boardsIn file) (cellsIn file) (tableOf m k w) ≡ inRange (boardsIn file) (cellsIn file)
+      go false e = rw e
+      go true e =
+          let r = l .right h e in
+          let p : length m ≡ cellsIn file * 1 = omega (arith, r .1) in
+          let q : length k ≡ cellsIn file * boardsIn file = rw (r .0, r .1) at b in
+          let s : length w ≡ cellsIn file * 3 = rw (r .1) at c in
+          rw (e, eq-eqb (length m) (cellsIn file * 1) p, eq-eqb (length k) (cellsIn file * boardsIn file) q, eq-eqb (length w) (cellsIn file * 3) s)
+
+pub few-copies : (file : List ℕ) (boards cells : ℕ) → Lent file boards cells → cells * boards ≤ 8192
+few-copies file boards cells l = omega (arith, mul-le-mul-left cells (l .few-boards), l .few-cells)
+
+-- ---- what a run that is not refused has told
+
+module _ (file m k w numbers values : List ℕ) (r : Report) (m′ k′ w′ numbers′ values′ : List ℕ) (s : Runs file m k w numbers values r m′ k′ w′ numbers′ values′) (ok : r .number ≡ 0)
+    (e : refusalOf file ≡ 0) (a : 4096 ≤ length numbers′) (b : 4096 ≤ length values′) where
+  code-of : (i : ℕ) → i < countIn file → getD file (9 + 4 * cellsIn file + 9 * i) 0 ≡ lineOfRecord file i .action .code
+  unfolding actionAt lineAt lineOfRecord
+  code-of i h = sym (getD-drop (9 + 4 * cellsIn file) file (9 * i) 0) ∙ sym (ap (λ (x : Action). x .code) (its-action file i h))
+
+  number-of : (i : ℕ) → i < countIn file → getD numbers′ i 0 ≡ lineOfRecord file i .told .number
+  unfolding lineAt lineOfRecord
+  number-of i h = in-slice file m k w numbers values r m′ k′ w′ numbers′ values′ s ok (λ l. l .told .number) numbers numbers′ (s .numbers-are) i h
+
+  value-of : (i : ℕ) → i < countIn file → getD values′ i 0 ≡ lineOfRecord file i .told .value
+  unfolding lineAt lineOfRecord
+  value-of i h = in-slice file m k w numbers values r m′ k′ w′ numbers′ values′ s ok (λ l. l .told .value) values values′ (s .values-are) i h
+
+  pub run-told : RunTold file numbers′ values′ (r .accepted) (r .stale)
+  run-told =
+      let y = readable file (cellsIn file) .0 e in
+      let few : countIn file ≤ 4096 = few-records-in (length file - (9 + 4 * cellsIn file)) (y .recorded) in
+      record {
+        headed = y .headed-whole;
+        accepted-is = s .accepted-is ∙ rw (eq-eqb (r .number) 0 ok);
+        stale-is = s .stale-is ∙ rw (eq-eqb (r .number) 0 ok);
+        told = record {
+          few = few;
+          few-before = omega (arith, y .sizes .few-cells);
+          whole = omega (arith, y .valued);
+          room-numbers = omega arith;
+          room-values = omega arith;
+          lines = logged file;
+          codes = code-of;
+          numbers-are = number-of;
+          values-are = value-of;
+        };
+      }

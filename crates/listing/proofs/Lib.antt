@@ -1,0 +1,9 @@
+-- The laws and the promises. Assumes nothing.
+pub mod DigitLaws
+pub mod LineLaws
+pub mod ListingLaws
+pub mod LentLaws
+pub mod Decimals
+pub mod Unique
+pub mod Fits
+pub mod Example

@@ -1,0 +1,146 @@
+-- The lines of the records one by one, and the parts of a listing put one behind the other. Assumes nothing.
+use mathlib.Core.Path.{_≡_, refl, ap, sym, _∙_}
+use mathlib.Core.Logic.{_≢_}
+use mathlib.Core.List.{List, [], _∷_, _++_, append-assoc, append-nil}
+use Prim.Native.Nat.{ℕ, suc, _+_, _*_, _<_, _≤_}
+use native.Mathlib.Omega.{arith}
+use native.Mathlib.Numerals.{add-one}
+use borrow.Author.Tests.{lt-ltb, le-ltb, eq-eqb, ne-eqb}
+use lib.ListN.{length, getD, take, drop, length-append, take-append-drop}
+use lib.Seq.{take-suc, length-take-le, take-length}
+use Rattle.protocol.specs.Runs.{Line}
+use Rattle.sessions.specs.Written.{written}
+use Rattle.sessions.specs.File.{ruleIn, boardsIn, cellsIn}
+use Rattle.sessions.specs.FileRefusals.{countIn}
+use Rattle.sessions.specs.Run.{logOf, acceptedIn, staleOf}
+use Rattle.sessions.proofs.WrittenLaws.{written-more, in-front}
+use Rattle.listing.specs.Listing.{line, recordLine, recordLines, refusedWord, refusedListing, runListing, refusalOf, listingOf}
+use Rattle.listing.specs.Code.{noLine, lineOfRecord, Told, Puts}
+use Rattle.listing.specs.declared.Listed.{Listed}
+use Rattle.listing.specs.Statements.{Lists}
+
+-- ---- the lines of the records
+
+lines-append : (index : ℕ) (ks ls : List Line) → recordLines index (ks ++ ls) ≡ recordLines index ks ++ recordLines (index + length ks) ls
+unfolding recordLines
+lines-append index [] ls = let z : index + 0 ≡ index = omega arith in rw z
+lines-append index (k ∷ ks) ls =
+    let z : index + suc (length ks) ≡ suc index + length ks = omega arith in
+    rw (lines-append (suc index) ks ls, z) (sym (append-assoc (recordLine index k) (recordLines (suc index) ks) (recordLines (suc index + length ks) ls)))
+
+one-more : (index : ℕ) (ls : List Line) (l : Line) → recordLines index (ls ++ (l ∷ [])) ≡ recordLines index ls ++ recordLine (index + length ls) l
+unfolding recordLines
+one-more index ls l = lines-append index ls (l ∷ []) ∙ rw append-nil
+
+-- the lines of the first i records
+unfoldable pub upTo : (file : List ℕ) → (i : ℕ) → List ℕ
+upTo file i = recordLines 0 (take i (logOf file))
+
+pub up-to-none : (file : List ℕ) → upTo file 0 ≡ []
+unfolding upTo recordLines
+up-to-none file = refl
+
+module _ (file : List ℕ) (from count : ℕ) (numbers values : List ℕ) (t : Told file from count numbers values) where
+  pub up-to-all : upTo file count ≡ recordLines 0 (logOf file)
+  unfolding upTo
+  up-to-all = rw (sym (t .lines)) (ap (recordLines 0) (take-length (logOf file)))
+
+  module _ (i : ℕ) (h : i < count) where
+    -- the line of the next record, by the slices
+    abbrev pub next : List ℕ
+    next = line i (getD file (from + 9 * i) 0 ∷ getD numbers i 0 ∷ getD values i 0 ∷ [])
+
+    pub up-to-more : upTo file (i + 1) ≡ upTo file i ++ next
+    unfolding upTo recordLine lineOfRecord
+    up-to-more =
+        let inside : i < length (logOf file) = omega (arith, t .lines) in
+        let n : 0 + length (take i (logOf file)) ≡ i = omega (arith, length-take-le i (logOf file) (omega arith)) in
+        rw (add-one, take-suc (logOf file) i noLine inside, one-more 0 (take i (logOf file)) (getD (logOf file) i noLine), n, t .codes i h, t .numbers-are i h, t .values-are i h)
+
+    pub length-more : length (upTo file (i + 1)) ≡ length (upTo file i) + length next
+    length-more = ap length up-to-more ∙ length-append (upTo file i) next
+
+    -- they are among all lines
+    pub within : length (upTo file (i + 1)) ≤ length (recordLines 0 (logOf file))
+    unfolding upTo
+    within =
+        let first = take (i + 1) (logOf file) in
+        let rest = drop (i + 1) (logOf file) in
+        let e : recordLines 0 (logOf file) ≡ recordLines 0 first ++ recordLines (0 + length first) rest = ap (recordLines 0) (sym (take-append-drop (i + 1) (logOf file))) ∙ lines-append 0 first rest in
+        omega (arith, ap length e, length-append (recordLines 0 first) (recordLines (0 + length first) rest))
+
+    pub written-up-to : (place at : ℕ) (old : List ℕ) → place ≡ at + length (upTo file i) → at + length (recordLines 0 (logOf file)) ≤ length old →
+        written next place (written (upTo file i) at old) ≡ written (upTo file (i + 1)) at old
+    written-up-to place at old e h = rw (e, up-to-more) (written-more (upTo file i) next at old (omega (arith, within, length-more)))
+
+-- ---- the outcome, where there is room and where there is none
+
+module _ (bytes old : List ℕ) (n : ℕ) (is : n ≡ length bytes) where
+  pub no-room : length old < n → Puts bytes old (record { number = 20; length = 0 }) old
+  no-room h = record { number-is = rw (lt-ltb (length old) (length bytes) (omega arith)); length-is = refl; bytes-are = refl }
+
+  pub room : n ≤ length old → (out : List ℕ) → out ≡ written bytes 0 old → Puts bytes old (record { number = 0; length = n }) out
+  room h out e = record { number-is = rw (le-ltb (length old) (length bytes) (omega arith)); length-is = is; bytes-are = e ∙ in-front bytes old }
+
+module _ (file old : List ℕ) (r : Listed) (out : List ℕ) where
+  pub lists-refused : (number : ℕ) → number ≡ refusalOf file → number ≢ 0 → Puts (refusedListing number) old r out → Lists file old r out
+  unfolding listingOf
+  lists-refused number e h p =
+      let z = ne-eqb (refusalOf file) 0 (rw e at h) in
+      record { number-is = rw (z, sym e) (p .number-is); length-is = rw (z, sym e) (p .length-is); bytes = rw (z, sym e) (p .bytes-are) }
+
+  pub lists-run : refusalOf file ≡ 0 → Puts (runListing file) old r out → Lists file old r out
+  unfolding listingOf
+  lists-run e p =
+      let z = eq-eqb (refusalOf file) 0 e in
+      record { number-is = rw z (p .number-is); length-is = rw z (p .length-is); bytes = rw z (p .bytes-are) }
+
+-- ---- the one line of a refused file
+
+pub length-refused : (number : ℕ) → length (refusedListing number) ≡ 8 + length (line number [])
+unfolding refusedListing
+length-refused number = length-append (refusedWord ++ (32 ∷ [])) (line number [])
+
+pub written-refused : (number : ℕ) (old : List ℕ) → 8 + length (line number []) ≤ length old →
+    written (line number []) 8 (written (refusedWord ++ (32 ∷ [])) 0 old) ≡ written (refusedListing number) 0 old
+unfolding refusedListing
+written-refused number old h = written-more (refusedWord ++ (32 ∷ [])) (line number []) 0 old h
+
+-- ---- the lines of a run, with the first line's and the last line's numbers
+
+module _ (file : List ℕ) where
+  abbrev pub firstLine : List ℕ
+  firstLine = line (ruleIn file) (boardsIn file ∷ cellsIn file ∷ [])
+
+  abbrev pub lastLine : List ℕ
+  lastLine = line (countIn file) (acceptedIn (logOf file) ∷ staleOf file ∷ [])
+
+  pub length-run : length (runListing file) ≡ length firstLine + length (recordLines 0 (logOf file)) + length lastLine
+  unfolding runListing
+  length-run = omega (arith, length-append firstLine (recordLines 0 (logOf file) ++ lastLine), length-append (recordLines 0 (logOf file)) lastLine)
+
+  pub written-run : (first last : ℕ) (old : List ℕ) → first ≡ length firstLine → last ≡ first + length (recordLines 0 (logOf file)) → length (runListing file) ≤ length old →
+      written lastLine last (written (recordLines 0 (logOf file)) first (written firstLine 0 old)) ≡ written (runListing file) 0 old
+  unfolding runListing
+  written-run first last old e d h =
+      let ls = recordLines 0 (logOf file) in
+      let a : first ≡ 0 + length firstLine = omega arith in
+      let b : last ≡ 0 + length (firstLine ++ ls) = omega (arith, length-append firstLine ls) in
+      ap (λ (k : ℕ). written lastLine last (written ls k (written firstLine 0 old))) a
+      ∙ ap (written lastLine last) (written-more firstLine ls 0 old (omega (arith, length-run)))
+      ∙ ap (λ (k : ℕ). written lastLine k (written (firstLine ++ ls) 0 old)) b
+      ∙ written-more (firstLine ++ ls) lastLine 0 old (omega (arith, length-run, length-append firstLine ls))
+      ∙ ap (λ (l : List ℕ). written l 0 old) (append-assoc firstLine ls lastLine)
+
+  module _ (cells count accepted stale : ℕ) (c : cells ≡ cellsIn file) (n : count ≡ countIn file) (a : accepted ≡ acceptedIn (logOf file)) (z : stale ≡ staleOf file) where
+    pub long-run : (x y w : ℕ) → x ≡ length (line (ruleIn file) (boardsIn file ∷ cells ∷ [])) → y ≡ length (recordLines 0 (logOf file)) → w ≡ length (line count (accepted ∷ stale ∷ [])) →
+        x + y + w ≡ length (runListing file)
+    long-run x y w p q r = rw (p, q, r, c, n, a, z) (sym length-run)
+
+    pub put-run : (first last : ℕ) (old out₁ out₂ out₃ : List ℕ) → length (runListing file) ≤ length old →
+        first ≡ 0 + length (line (ruleIn file) (boardsIn file ∷ cells ∷ [])) → out₁ ≡ written (line (ruleIn file) (boardsIn file ∷ cells ∷ [])) 0 old →
+        last ≡ first + length (recordLines 0 (logOf file)) → out₂ ≡ written (recordLines 0 (logOf file)) first out₁ →
+        out₃ ≡ written (line count (accepted ∷ stale ∷ [])) last out₂ → out₃ ≡ written (runListing file) 0 old
+    put-run first last old out₁ out₂ out₃ h f p l q r =
+        let f′ : first ≡ length firstLine = f ∙ rw c (omega arith) in
+        r ∙ rw (q, p, c, n, a, z) (written-run first last old f′ l h)

@@ -1,0 +1,22 @@
+-- `put_one` is a number ended by a newline. Assumes nothing.
+use Rattle.listing.specs.Listing.{line}
+use borrow.Author.Needs.{needs}
+use Rattle.listing.proofs.line.put_one.Statement.{statement}
+use Rattle.listing.proofs.line.put_one.Tie as tie
+
+-- src/line.rt:30:5
+put-number-requires : tie.Need-put-number-requires
+unfolding line
+put-number-requires c κs = c .before .before .pre
+
+-- src/line.rt:26:1
+same-length : tie.Need-same-length
+same-length c = search needs
+
+-- src/line.rt:26:1
+returns : tie.Need-returns
+unfolding line
+returns c = c .before .before .put-number .ensures
+
+pub put-one-spec : {M : Type 1} → statement M
+put-one-spec = tie.close (tie.spec put-number-requires same-length returns)

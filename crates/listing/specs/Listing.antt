@@ -1,0 +1,44 @@
+-- The listing of a session file, in the words of document 01. Assumes nothing.
+use mathlib.Core.Bool.{cond}
+use mathlib.Core.List.{List, [], _∷_, _++_}
+use Prim.Native.Nat.{ℕ, suc}
+use lib.Dec.{eqb}
+use Rattle.protocol.specs.First.{firstNumber}
+use Rattle.protocol.specs.Runs.{Line}
+use Rattle.sessions.specs.File.{ruleIn, boardsIn, cellsIn}
+use Rattle.sessions.specs.FileRefusals.{readRefusals, countIn}
+use Rattle.sessions.specs.Run.{logOf, acceptedIn, staleOf}
+use Rattle.listing.specs.Decimal.{digits}
+
+-- "separated by one blank, each line ended by one newline": the bytes 32 and 10
+unfoldable pub line : (first : ℕ) → (others : List ℕ) → List ℕ
+line n [] = digits n ++ (10 ∷ [])
+line n (m ∷ ms) = (digits n ++ (32 ∷ [])) ++ line m ms
+
+-- "for each record: its index from 0, code, answer number, value answered"
+unfoldable pub recordLine : (index : ℕ) → Line → List ℕ
+recordLine index l = line index (l .action .code ∷ l .told .number ∷ l .told .value ∷ [])
+
+-- the lines of records, the first with this index
+unfoldable pub recordLines : (index : ℕ) → List Line → List ℕ
+recordLines index [] = []
+recordLines index (l ∷ ls) = recordLine index l ++ recordLines (suc index) ls
+
+-- the bytes of the word "refused"
+abbrev pub refusedWord : List ℕ
+refusedWord = 114 ∷ 101 ∷ 102 ∷ 117 ∷ 115 ∷ 101 ∷ 100 ∷ []
+
+-- "A refused file gives one line: `refused` and the number"
+unfoldable pub refusedListing : (number : ℕ) → List ℕ
+refusedListing number = (refusedWord ++ (32 ∷ [])) ++ line number []
+
+-- "First line: rule, P, N. Then for each record .. Last line: records, accepted, stale"
+unfoldable pub runListing : (file : List ℕ) → List ℕ
+runListing file = line (ruleIn file) (boardsIn file ∷ cellsIn file ∷ []) ++ (recordLines 0 (logOf file) ++ line (countIn file) (acceptedIn (logOf file) ∷ staleOf file ∷ []))
+
+-- the reader's order, with the right number of places lent
+abbrev pub refusalOf : (file : List ℕ) → ℕ
+refusalOf file = firstNumber (readRefusals file (cellsIn file))
+
+unfoldable pub listingOf : (file : List ℕ) → List ℕ
+listingOf file = cond (eqb (refusalOf file) 0) (runListing file) (refusedListing (refusalOf file))

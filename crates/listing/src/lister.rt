@@ -1,0 +1,104 @@
+// The listing of a file that is refused, and of one that is run.
+ghost use mathlib.Core.Path.{_≡_};
+ghost use mathlib.Core.List.{[], _∷_, _++_};
+ghost use Prim.Native.Nat.{_≤_};
+ghost use lib.ListN.{length};
+ghost use Rattle.protocol.specs.Slices.{tableOf};
+ghost use Rattle.sessions.specs.Written.{written};
+ghost use Rattle.listing.specs.Listing.{refusedWord, refusedListing, runListing};
+ghost use Rattle.listing.specs.Statements.{Lists};
+ghost use Rattle.listing.specs.Code.{Puts, RunTold, Sized};
+use crate::Listed;
+use crate::decimal;
+use crate::line;
+use crate::records;
+
+// The word `refused` and a blank.
+fn put_word(out: &mut [u8])
+    requires { ⌜ 8 ≤ length (now out) ⌝ }
+    ensures { λ _. ⌜ now (out .exit) ≡ written (refusedWord ++ (32 ∷ [])) 0 (now (out .entry)) ⌝ }
+{
+    let word = b"refused ";
+    out[0] = word[0];
+    out[1] = word[1];
+    out[2] = word[2];
+    out[3] = word[3];
+    out[4] = word[4];
+    out[5] = word[5];
+    out[6] = word[6];
+    out[7] = word[7];
+}
+
+// The one line of a refused file.
+fn refused(number: u8, out: &mut [u8]) -> Listed
+    ensures { λ r. ⌜ Puts (refusedListing number) (now (out .entry)) r (now (out .exit)) ⌝ }
+{
+    let length = decimal::width(number as usize) + 9;
+    if out.len() < length {
+        return Listed {
+            number: protocol::NO_ROOM,
+            length: 0,
+        };
+    }
+    put_word(out);
+    line::put_one(out, 8, number as usize);
+    Listed {
+        number: protocol::ACCEPTED,
+        length,
+    }
+}
+
+// The lines of a file that is run.
+fn told(
+    file: &[u8],
+    numbers: &[u8],
+    values: &[u32],
+    accepted: usize,
+    stale: usize,
+    out: &mut [u8],
+) -> Listed
+    requires { ⌜ RunTold (now file) (now numbers) (now values) accepted stale ⌝ }
+    ensures { λ r. ⌜ Puts (runListing (now (file .entry))) (now (out .entry)) r (now (out .exit)) ⌝ }
+{
+    let rule = file[5] as usize;
+    let boards = file[6] as usize;
+    let cells = file[7] as usize + file[8] as usize * 256;
+    let from = 9 + 4 * cells;
+    let count = (file.len() - from) / 9;
+    let length = line::width_three(rule, boards, cells)
+        + records::records_width(file, from, count, numbers, values)
+        + line::width_three(count, accepted, stale);
+    if out.len() < length {
+        return Listed {
+            number: protocol::NO_ROOM,
+            length: 0,
+        };
+    }
+    let first = line::put_three(out, 0, rule, boards, cells);
+    let last = records::put_records(file, from, count, numbers, values, out, first);
+    line::put_three(out, last, count, accepted, stale);
+    Listed {
+        number: protocol::ACCEPTED,
+        length,
+    }
+}
+
+// Runs a file over lent slices, and lists it.
+pub fn list_with(
+    file: &[u8],
+    main: &mut [u32],
+    copies: &mut [u32],
+    masks: &mut [u16],
+    numbers: &mut [u8],
+    values: &mut [u32],
+    out: &mut [u8],
+) -> Listed
+    requires { ⌜ Sized (now file) (tableOf (now main) (now copies) (now masks)) × (4096 ≤ length (now numbers)) × (4096 ≤ length (now values)) ⌝ }
+    ensures { λ r. ⌜ Lists (now (file .entry)) (now (out .entry)) r (now (out .exit)) ⌝ }
+{
+    let report = sessions::run(file, main, copies, masks, numbers, values);
+    if report.number != protocol::ACCEPTED {
+        return refused(report.number, out);
+    }
+    told(file, numbers, values, report.accepted, report.stale, out)
+}
