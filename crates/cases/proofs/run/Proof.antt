@@ -1,0 +1,63 @@
+-- `run` lends parts of its arrays, each within its length. Assumes nothing.
+use lib.ListN.{length-take}
+use native.Mathlib.Omega.{arith}
+use borrow.Author.Needs.{needs}
+use Rattle.cases.proofs.run.Statement.{statement}
+use Rattle.cases.proofs.run.Tie as tie
+
+array-borrow-prefix-main : tie.Need-array-borrow-prefix-main
+array-borrow-prefix-main c = search needs
+
+slice-aggregate-ran : tie.Need-slice-aggregate-ran
+slice-aggregate-ran c = simp length-take (omega (arith, array-borrow-prefix-main (c .before)))
+
+array-borrow-prefix-copies : tie.Need-array-borrow-prefix-copies
+array-borrow-prefix-copies c = search needs
+
+slice-aggregate-ran-2 : tie.Need-slice-aggregate-ran-2
+slice-aggregate-ran-2 c = simp length-take (omega (arith, array-borrow-prefix-copies (c .before)))
+
+array-borrow-prefix-three : tie.Need-array-borrow-prefix-three
+array-borrow-prefix-three c = search needs
+
+slice-aggregate-ran-3 : tie.Need-slice-aggregate-ran-3
+slice-aggregate-ran-3 c = simp length-take (omega (arith, array-borrow-prefix-three (c .before)))
+
+array-borrow-prefix-numbers : tie.Need-array-borrow-prefix-numbers
+array-borrow-prefix-numbers c = search needs
+
+slice-aggregate-ran-4 : tie.Need-slice-aggregate-ran-4
+slice-aggregate-ran-4 c = simp length-take (omega (arith, array-borrow-prefix-numbers (c .before)))
+
+array-borrow-prefix-answers : tie.Need-array-borrow-prefix-answers
+array-borrow-prefix-answers c = search needs
+
+slice-aggregate-ran-5 : tie.Need-slice-aggregate-ran-5
+slice-aggregate-ran-5 c = simp length-take (omega (arith, array-borrow-prefix-answers (c .before)))
+
+ran-requires : tie.Need-ran-requires
+ran-requires c κs = search needs
+
+returns : tie.Need-returns
+returns c = search needs
+
+returns-2 : tie.Need-returns-2
+returns-2 c = search needs
+
+pub run-spec : {M : Type 1} → statement M
+run-spec =
+    tie.close
+    (tie.spec
+    array-borrow-prefix-main
+    slice-aggregate-ran
+    array-borrow-prefix-copies
+    slice-aggregate-ran-2
+    array-borrow-prefix-three
+    slice-aggregate-ran-3
+    array-borrow-prefix-numbers
+    slice-aggregate-ran-4
+    array-borrow-prefix-answers
+    slice-aggregate-ran-5
+    ran-requires
+    returns
+    returns-2)

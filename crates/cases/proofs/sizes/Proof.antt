@@ -1,0 +1,55 @@
+-- `sizes` lends parts of its arrays, each within its length. Assumes nothing.
+use lib.ListN.{length-take}
+use native.Mathlib.Omega.{arith}
+use borrow.Author.Needs.{needs}
+use Rattle.cases.proofs.sizes.Statement.{statement}
+use Rattle.cases.proofs.sizes.Tie as tie
+
+array-share-prefix-starting : tie.Need-array-share-prefix-starting
+array-share-prefix-starting c = search needs
+
+slice-aggregate-sized : tie.Need-slice-aggregate-sized
+slice-aggregate-sized c = simp length-take (omega (arith, array-share-prefix-starting (c .before)))
+
+array-borrow-prefix-main : tie.Need-array-borrow-prefix-main
+array-borrow-prefix-main c = search needs
+
+slice-aggregate-sized-2 : tie.Need-slice-aggregate-sized-2
+slice-aggregate-sized-2 c = simp length-take (omega (arith, array-borrow-prefix-main (c .before)))
+
+array-borrow-prefix-copies : tie.Need-array-borrow-prefix-copies
+array-borrow-prefix-copies c = search needs
+
+slice-aggregate-sized-3 : tie.Need-slice-aggregate-sized-3
+slice-aggregate-sized-3 c = simp length-take (omega (arith, array-borrow-prefix-copies (c .before)))
+
+array-borrow-prefix-three : tie.Need-array-borrow-prefix-three
+array-borrow-prefix-three c = search needs
+
+slice-aggregate-sized-4 : tie.Need-slice-aggregate-sized-4
+slice-aggregate-sized-4 c = simp length-take (omega (arith, array-borrow-prefix-three (c .before)))
+
+sized-requires : tie.Need-sized-requires
+sized-requires c κs = search needs
+
+returns : tie.Need-returns
+returns c = search needs
+
+returns-2 : tie.Need-returns-2
+returns-2 c = search needs
+
+pub sizes-spec : {M : Type 1} → statement M
+sizes-spec =
+    tie.close
+    (tie.spec
+    array-share-prefix-starting
+    slice-aggregate-sized
+    array-borrow-prefix-main
+    slice-aggregate-sized-2
+    array-borrow-prefix-copies
+    slice-aggregate-sized-3
+    array-borrow-prefix-three
+    slice-aggregate-sized-4
+    sized-requires
+    returns
+    returns-2)

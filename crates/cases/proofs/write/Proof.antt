@@ -1,0 +1,59 @@
+-- `write` lends parts of its arrays, each within its length. Assumes nothing.
+use lib.ListN.{length-take}
+use native.Mathlib.Omega.{arith}
+use borrow.Author.Needs.{needs}
+use Rattle.cases.proofs.write.Statement.{statement}
+use Rattle.cases.proofs.write.Tie as tie
+
+array-share-prefix-starting : tie.Need-array-share-prefix-starting
+array-share-prefix-starting c = search needs
+
+slice-aggregate-write : tie.Need-slice-aggregate-write
+slice-aggregate-write c = simp length-take (omega (arith, array-share-prefix-starting (c .before)))
+
+array-share-prefix-records : tie.Need-array-share-prefix-records
+array-share-prefix-records c = search needs
+
+slice-aggregate-write-2 : tie.Need-slice-aggregate-write-2
+slice-aggregate-write-2 c = simp length-take (omega (arith, array-share-prefix-records (c .before)))
+
+array-borrow-prefix-out : tie.Need-array-borrow-prefix-out
+array-borrow-prefix-out c = search needs
+
+slice-aggregate-write-3 : tie.Need-slice-aggregate-write-3
+slice-aggregate-write-3 c = simp length-take (omega (arith, array-borrow-prefix-out (c .before)))
+
+write-requires : tie.Need-write-requires
+write-requires c κs = search needs
+
+write-all-requires : tie.Need-write-all-requires
+write-all-requires c κs = search needs
+
+byte-requires : tie.Need-byte-requires
+byte-requires c κs = search needs
+
+end-requires : tie.Need-end-requires
+end-requires c κs = search needs
+
+returns : tie.Need-returns
+returns c = search needs
+
+returns-2 : tie.Need-returns-2
+returns-2 c = search needs
+
+pub write-spec : {M : Type 1} → statement M
+write-spec =
+    tie.close
+    (tie.spec
+    array-share-prefix-starting
+    slice-aggregate-write
+    array-share-prefix-records
+    slice-aggregate-write-2
+    array-borrow-prefix-out
+    slice-aggregate-write-3
+    write-requires
+    write-all-requires
+    byte-requires
+    end-requires
+    returns
+    returns-2)
