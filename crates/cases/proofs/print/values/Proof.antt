@@ -1,10 +1,10 @@
--- `bytes` prints each number of a slice. Assumes nothing.
+-- `values` prints each number of a slice. Assumes nothing.
 use Prim.Native.Nat.{_-_, _≤_}
 use lib.ListN.{length}
 use borrow.Author.Needs.{needs}
 use native.Mathlib.Omega.{arith}
-use Rattle.cases.proofs.bytes.Statement.{statement}
-use Rattle.cases.proofs.bytes.Tie as tie
+use Rattle.cases.proofs.print.values.Statement.{statement}
+use Rattle.cases.proofs.print.values.Tie as tie
 
 abbrev Inv-loop : tie.InvT-loop
 Inv-loop s i₀ i = i ≤ length s
@@ -15,11 +15,14 @@ abbrev μ-loop : tie.MeasureT-loop
 loop-holds : tie.Need-loop-holds Inv-loop μ-loop
 loop-holds c = omega arith
 
-shared-slice-read-byte : tie.Need-shared-slice-read-byte Inv-loop μ-loop
-shared-slice-read-byte c = search needs
+mul-value : tie.Need-mul-value Inv-loop μ-loop
+mul-value c = search needs
 
-byte-requires : tie.Need-byte-requires Inv-loop μ-loop
-byte-requires c κs = search needs
+shared-slice-read-value : tie.Need-shared-slice-read-value Inv-loop μ-loop
+shared-slice-read-value c = search needs
+
+value-requires : tie.Need-value-requires Inv-loop μ-loop
+value-requires c κs = search needs
 
 add-i : tie.Need-add-i Inv-loop μ-loop
 add-i c = search needs
@@ -33,15 +36,16 @@ loop-again c = omega arith
 returns : tie.Need-returns Inv-loop μ-loop
 returns c = search needs
 
-pub bytes-spec : {M : Type 1} → statement M
-bytes-spec =
+pub values-spec : {M : Type 1} → statement M
+values-spec =
     tie.close
     (tie.spec
     Inv-loop
     μ-loop
     loop-holds
-    shared-slice-read-byte
-    byte-requires
+    mul-value
+    shared-slice-read-value
+    value-requires
     add-i
     loop-less
     loop-again

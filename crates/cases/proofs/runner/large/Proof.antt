@@ -2,8 +2,8 @@
 use lib.ListN.{length-take}
 use native.Mathlib.Omega.{arith}
 use borrow.Author.Needs.{needs}
-use Rattle.cases.proofs.large.Statement.{statement}
-use Rattle.cases.proofs.large.Tie as tie
+use Rattle.cases.proofs.runner.large.Statement.{statement}
+use Rattle.cases.proofs.runner.large.Tie as tie
 
 slice-aggregate-write : tie.Need-slice-aggregate-write
 slice-aggregate-write c = search needs
@@ -38,17 +38,17 @@ array-borrow-prefix-numbers c = search needs
 slice-aggregate-run-5 : tie.Need-slice-aggregate-run-5
 slice-aggregate-run-5 c = simp length-take (omega (arith, array-borrow-prefix-numbers (c .before)))
 
-array-borrow-prefix-answers : tie.Need-array-borrow-prefix-answers
-array-borrow-prefix-answers c = search needs
+array-borrow-prefix-values : tie.Need-array-borrow-prefix-values
+array-borrow-prefix-values c = search needs
 
 slice-aggregate-run-6 : tie.Need-slice-aggregate-run-6
-slice-aggregate-run-6 c = simp length-take (omega (arith, array-borrow-prefix-answers (c .before)))
+slice-aggregate-run-6 c = simp length-take (omega (arith, array-borrow-prefix-values (c .before)))
 
 run-requires : tie.Need-run-requires
 run-requires c κs = search needs
 
-write-all-requires : tie.Need-write-all-requires
-write-all-requires c κs = search needs
+label-requires : tie.Need-label-requires
+label-requires c κs = search needs
 
 byte-requires : tie.Need-byte-requires
 byte-requires c κs = search needs
@@ -89,10 +89,10 @@ large-spec =
     slice-aggregate-run-4
     array-borrow-prefix-numbers
     slice-aggregate-run-5
-    array-borrow-prefix-answers
+    array-borrow-prefix-values
     slice-aggregate-run-6
     run-requires
-    write-all-requires
+    label-requires
     byte-requires
     comma-requires
     byte-requires-2

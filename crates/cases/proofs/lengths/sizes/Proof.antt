@@ -2,8 +2,8 @@
 use lib.ListN.{length-take}
 use native.Mathlib.Omega.{arith}
 use borrow.Author.Needs.{needs}
-use Rattle.cases.proofs.sizes.Statement.{statement}
-use Rattle.cases.proofs.sizes.Tie as tie
+use Rattle.cases.proofs.lengths.sizes.Statement.{statement}
+use Rattle.cases.proofs.lengths.sizes.Tie as tie
 
 array-share-prefix-starting : tie.Need-array-share-prefix-starting
 array-share-prefix-starting c = search needs
@@ -23,11 +23,11 @@ array-borrow-prefix-copies c = search needs
 slice-aggregate-sized-3 : tie.Need-slice-aggregate-sized-3
 slice-aggregate-sized-3 c = simp length-take (omega (arith, array-borrow-prefix-copies (c .before)))
 
-array-borrow-prefix-three : tie.Need-array-borrow-prefix-three
-array-borrow-prefix-three c = search needs
+array-borrow-prefix-masks : tie.Need-array-borrow-prefix-masks
+array-borrow-prefix-masks c = search needs
 
 slice-aggregate-sized-4 : tie.Need-slice-aggregate-sized-4
-slice-aggregate-sized-4 c = simp length-take (omega (arith, array-borrow-prefix-three (c .before)))
+slice-aggregate-sized-4 c = simp length-take (omega (arith, array-borrow-prefix-masks (c .before)))
 
 sized-requires : tie.Need-sized-requires
 sized-requires c κs = search needs
@@ -48,7 +48,7 @@ sizes-spec =
     slice-aggregate-sized-2
     array-borrow-prefix-copies
     slice-aggregate-sized-3
-    array-borrow-prefix-three
+    array-borrow-prefix-masks
     slice-aggregate-sized-4
     sized-requires
     returns

@@ -3,8 +3,8 @@ use Prim.Native.Nat.{_-_, _≤_}
 use lib.ListN.{length}
 use borrow.Author.Needs.{needs}
 use native.Mathlib.Omega.{arith}
-use Rattle.cases.proofs.masks.Statement.{statement}
-use Rattle.cases.proofs.masks.Tie as tie
+use Rattle.cases.proofs.print.masks.Statement.{statement}
+use Rattle.cases.proofs.print.masks.Tie as tie
 
 abbrev Inv-loop : tie.InvT-loop
 Inv-loop s i₀ i = i ≤ length s

@@ -2,8 +2,8 @@
 use lib.ListN.{length-take}
 use native.Mathlib.Omega.{arith}
 use borrow.Author.Needs.{needs}
-use Rattle.cases.proofs.write.Statement.{statement}
-use Rattle.cases.proofs.write.Tie as tie
+use Rattle.cases.proofs.writer.write.Statement.{statement}
+use Rattle.cases.proofs.writer.write.Tie as tie
 
 array-share-prefix-starting : tie.Need-array-share-prefix-starting
 array-share-prefix-starting c = search needs
@@ -26,8 +26,8 @@ slice-aggregate-write-3 c = simp length-take (omega (arith, array-borrow-prefix-
 write-requires : tie.Need-write-requires
 write-requires c κs = search needs
 
-write-all-requires : tie.Need-write-all-requires
-write-all-requires c κs = search needs
+label-requires : tie.Need-label-requires
+label-requires c κs = search needs
 
 byte-requires : tie.Need-byte-requires
 byte-requires c κs = search needs
@@ -52,7 +52,7 @@ write-spec =
     array-borrow-prefix-out
     slice-aggregate-write-3
     write-requires
-    write-all-requires
+    label-requires
     byte-requires
     end-requires
     returns

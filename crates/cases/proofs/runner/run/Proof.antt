@@ -2,8 +2,8 @@
 use lib.ListN.{length-take}
 use native.Mathlib.Omega.{arith}
 use borrow.Author.Needs.{needs}
-use Rattle.cases.proofs.run.Statement.{statement}
-use Rattle.cases.proofs.run.Tie as tie
+use Rattle.cases.proofs.runner.run.Statement.{statement}
+use Rattle.cases.proofs.runner.run.Tie as tie
 
 array-borrow-prefix-main : tie.Need-array-borrow-prefix-main
 array-borrow-prefix-main c = search needs
@@ -17,11 +17,11 @@ array-borrow-prefix-copies c = search needs
 slice-aggregate-ran-2 : tie.Need-slice-aggregate-ran-2
 slice-aggregate-ran-2 c = simp length-take (omega (arith, array-borrow-prefix-copies (c .before)))
 
-array-borrow-prefix-three : tie.Need-array-borrow-prefix-three
-array-borrow-prefix-three c = search needs
+array-borrow-prefix-masks : tie.Need-array-borrow-prefix-masks
+array-borrow-prefix-masks c = search needs
 
 slice-aggregate-ran-3 : tie.Need-slice-aggregate-ran-3
-slice-aggregate-ran-3 c = simp length-take (omega (arith, array-borrow-prefix-three (c .before)))
+slice-aggregate-ran-3 c = simp length-take (omega (arith, array-borrow-prefix-masks (c .before)))
 
 array-borrow-prefix-numbers : tie.Need-array-borrow-prefix-numbers
 array-borrow-prefix-numbers c = search needs
@@ -29,11 +29,11 @@ array-borrow-prefix-numbers c = search needs
 slice-aggregate-ran-4 : tie.Need-slice-aggregate-ran-4
 slice-aggregate-ran-4 c = simp length-take (omega (arith, array-borrow-prefix-numbers (c .before)))
 
-array-borrow-prefix-answers : tie.Need-array-borrow-prefix-answers
-array-borrow-prefix-answers c = search needs
+array-borrow-prefix-values : tie.Need-array-borrow-prefix-values
+array-borrow-prefix-values c = search needs
 
 slice-aggregate-ran-5 : tie.Need-slice-aggregate-ran-5
-slice-aggregate-ran-5 c = simp length-take (omega (arith, array-borrow-prefix-answers (c .before)))
+slice-aggregate-ran-5 c = simp length-take (omega (arith, array-borrow-prefix-values (c .before)))
 
 ran-requires : tie.Need-ran-requires
 ran-requires c κs = search needs
@@ -52,11 +52,11 @@ run-spec =
     slice-aggregate-ran
     array-borrow-prefix-copies
     slice-aggregate-ran-2
-    array-borrow-prefix-three
+    array-borrow-prefix-masks
     slice-aggregate-ran-3
     array-borrow-prefix-numbers
     slice-aggregate-ran-4
-    array-borrow-prefix-answers
+    array-borrow-prefix-values
     slice-aggregate-ran-5
     ran-requires
     returns

@@ -1,0 +1,83 @@
+// What a case prints: a label, then numbers, each behind a blank, and commas between what belongs together.
+use table::Checked;
+
+fn number(n: u64) {
+    io::write_all(1, b" ");
+    io::print_decimal(1, n);
+}
+
+pub fn byte(n: u8) {
+    number(n as u64);
+}
+
+pub fn value(n: u32) {
+    number(n as u64);
+}
+
+pub fn count(n: usize) {
+    number(n as u64);
+}
+
+pub fn label(s: &[u8]) {
+    io::write_all(1, s);
+}
+
+// A label, and the rule.
+pub fn ruled(s: &[u8], rule: u8) {
+    label(s);
+    label(b", rule");
+    byte(rule);
+    label(b":");
+}
+
+pub fn comma() {
+    io::write_all(1, b",");
+}
+
+pub fn end() {
+    io::write_all(1, b"\n");
+}
+
+pub fn bytes(s: &[u8]) {
+    let mut i = 0;
+    while i < s.len() {
+        byte(s[i]);
+        i += 1;
+    }
+}
+
+pub fn values(s: &[u32]) {
+    let mut i = 0;
+    while i < s.len() {
+        value(s[i]);
+        i += 1;
+    }
+}
+
+fn mask(n: u16) {
+    number(n as u64);
+}
+
+pub fn masks(s: &[u16]) {
+    let mut i = 0;
+    while i < s.len() {
+        mask(s[i]);
+        i += 1;
+    }
+}
+
+pub fn found(c: Checked) {
+    match c {
+        Checked::Sound => {
+            io::write_all(1, b" sound");
+        }
+        Checked::Unsound(cell) => {
+            io::write_all(1, b" unsound");
+            count(cell);
+        }
+        Checked::Refused(n) => {
+            io::write_all(1, b" refused");
+            byte(n);
+        }
+    }
+}

@@ -1,0 +1,127 @@
+// The slips that look right, and damage in another cell.
+use crate::actions::acquire;
+use crate::actions::act;
+use crate::actions::ctoc;
+use crate::actions::drop;
+use crate::actions::read;
+use crate::actions::release;
+use crate::cell::cell;
+use crate::cell::s0;
+use crate::cell::s1;
+use crate::cell::s2;
+use crate::cell::step;
+use crate::print;
+use protocol::Action;
+
+pub fn slips() {
+    step(
+        b"slip: a live copy holds 0",
+        0,
+        cell(0, 0, 1, 0, 0),
+        read(0),
+    );
+    step(
+        b"slip: a dirty copy holds 0",
+        2,
+        cell(0, 0, 1, 1, 0),
+        read(0),
+    );
+    step(
+        b"slip: CtoC of a live 0",
+        0,
+        cell(0, 5, 3, 0, 0),
+        ctoc(0, 1),
+    );
+    step(
+        b"slip: a live 0 bars Acquire",
+        3,
+        cell(0, 0, 1, 1, 0),
+        acquire(1),
+    );
+    step(b"slip: Drop, not live", 4, cell(0, 7, 2, 0, 0), drop(0));
+    step(
+        b"slip: Release, no lock",
+        4,
+        cell(7, 0, 1, 0, 0),
+        release(0),
+    );
+    step(
+        b"slip: Release, the other's lock",
+        4,
+        cell(9, 0, 1, 1, 1),
+        release(1),
+    );
+    step(
+        b"slip: Release, the other's lock",
+        3,
+        cell(0, 0, 0, 0, 1),
+        release(1),
+    );
+    step(b"slip: Acquire, not live", 3, s0(), acquire(0));
+    step(
+        b"slip: the current value is not main",
+        1,
+        cell(9, 9, 3, 2, 0),
+        read(0),
+    );
+    step(b"slip: main's number, another dirty", 1, s2(), read(1));
+    step(
+        b"slip: another wrote the same number",
+        1,
+        cell(7, 7, 3, 1, 0),
+        read(1),
+    );
+    step(b"slip: CtoC from a dirty board", 0, s1(), ctoc(0, 1));
+    step(b"slip: CtoC from a dirty board", 1, s1(), ctoc(0, 1));
+    step(b"slip: CtoC from a dirty board", 2, s1(), ctoc(0, 1));
+    step(b"slip: CtoC from a dirty board", 3, s1(), ctoc(0, 1));
+    step(
+        b"slip: CtoC by the holder",
+        3,
+        cell(7, 0, 1, 0, 1),
+        ctoc(0, 1),
+    );
+    step(
+        b"slip: CtoC by the holder",
+        4,
+        cell(7, 0, 1, 0, 1),
+        ctoc(0, 1),
+    );
+}
+
+// One action on two cells of two boards, main 7 and 8: the first copy and the live mask of cell 0 are given, all else is 0.
+fn damaged(label: &[u8], rule: u8, first: u32, live: u16, action: Action) {
+    let mut main = [7u32, 8];
+    let mut copies = [first, 0, 0, 0];
+    let mut masks = [live, 0, 0, 0, 0, 0];
+    let r = table::step(rule, 2, 2, &mut main, &mut copies, &mut masks, action);
+    print::ruled(label, rule);
+    print::byte(r.number);
+    print::value(r.value);
+    print::comma();
+    print::values(&main);
+    print::comma();
+    print::values(&copies);
+    print::comma();
+    print::masks(&masks);
+    print::end();
+}
+
+pub fn damage() {
+    damaged(
+        b"damage in cell 0, MtoC 1 of cell 1",
+        4,
+        5,
+        0,
+        act(3, 1, 0, 1, 0),
+    );
+    damaged(
+        b"damage in cell 0, Read 0 of cell 1",
+        4,
+        0,
+        32768,
+        act(0, 0, 0, 1, 0),
+    );
+    damaged(b"damage in cell 0, Read 0 of cell 0", 4, 5, 0, read(0));
+    damaged(b"no damage, cell 2", 4, 0, 0, act(0, 0, 0, 2, 0));
+}
