@@ -14,7 +14,7 @@ use crate::cell::s1;
 use crate::cell::s2;
 use crate::cell::step;
 
-pub fn reads_and_writes() {
+fn of_read() {
     step(b"Read, not live", 0, cell(7, 0, 1, 0, 0), read(1));
     step(b"Read, not live", 1, s1(), read(1));
     step(b"Read, not live", 2, cell(7, 0, 1, 0, 0), read(1));
@@ -28,6 +28,9 @@ pub fn reads_and_writes() {
     );
     step(b"Read of the dirty copy", 1, s2(), read(0));
     step(b"Read", 4, cell(9, 0, 1, 1, 1), read(0));
+}
+
+fn of_write() {
     step(b"Write, another dirty", 0, s1(), write(1, 5));
     step(b"Write, itself dirty", 1, s1(), write(0, 5));
     step(b"Write, another live", 1, cell(0, 7, 2, 0, 0), write(0, 5));
@@ -49,11 +52,14 @@ pub fn reads_and_writes() {
     step(b"Write, its lock", 3, cell(0, 0, 0, 0, 1), write(0, 5));
     step(b"Write, its lock", 4, cell(0, 0, 0, 0, 2), write(1, 5));
     step(b"Write of 4294967295", 0, s0(), write(1, 4294967295));
+}
+
+fn of_barrier() {
     step(b"Barrier, not live", 0, s1(), barrier(1));
     step(b"Barrier, live", 0, cell(0, 7, 2, 0, 0), barrier(1));
 }
 
-pub fn moves() {
+fn of_mtoc() {
     step(b"MtoC, dirty", 0, s1(), mtoc(0));
     step(b"MtoC, dirty", 1, s1(), mtoc(0));
     step(b"MtoC, dirty", 2, s1(), mtoc(0));
@@ -78,10 +84,16 @@ pub fn moves() {
     step(b"MtoC, the other's lock", 4, cell(0, 0, 0, 0, 1), mtoc(1));
     step(b"MtoC, its lock", 4, cell(0, 0, 0, 0, 1), mtoc(0));
     step(b"MtoC over an old copy", 0, cell(5, 0, 1, 0, 0), mtoc(0));
+}
+
+fn of_ctom() {
     step(b"CtoM, not dirty", 1, cell(7, 0, 1, 0, 0), ctom(0));
     step(b"CtoM, not live", 2, s0(), ctom(0));
     step(b"CtoM, another dirty", 1, s2(), ctom(1));
     step(b"CtoM, two dirty", 0, cell(9, 8, 3, 3, 0), ctom(1));
+}
+
+fn of_ctoc() {
     step(
         b"CtoC, its lock, to a dirty board, not live",
         3,
@@ -108,11 +120,14 @@ pub fn moves() {
     step(b"CtoC, no lock", 4, cell(0, 7, 2, 0, 0), ctoc(1, 0));
 }
 
-pub fn keeps_and_locks() {
+fn of_drop() {
     step(b"Drop, dirty", 0, s1(), drop(0));
     step(b"Drop, dirty", 4, cell(9, 0, 1, 1, 1), drop(0));
     step(b"Drop, live", 1, s2(), drop(1));
     step(b"Drop, live with its lock", 4, cell(7, 0, 1, 0, 1), drop(0));
+}
+
+fn of_acquire() {
     step(b"Acquire, its lock", 4, cell(0, 0, 0, 0, 1), acquire(0));
     step(b"Acquire, its lock", 3, cell(7, 0, 1, 0, 1), acquire(0));
     step(
@@ -135,7 +150,22 @@ pub fn keeps_and_locks() {
     );
     step(b"Acquire, both live", 4, cell(7, 7, 3, 0, 0), acquire(1));
     step(b"Acquire, itself live", 4, cell(0, 7, 2, 0, 0), acquire(1));
+}
+
+fn of_release() {
     step(b"Release, dirty", 4, cell(9, 0, 1, 1, 1), release(0));
     step(b"Release, dirty", 3, cell(9, 0, 1, 1, 1), release(0));
     step(b"Release, live", 4, cell(0, 7, 2, 0, 2), release(1));
+}
+
+pub fn guards() {
+    of_read();
+    of_write();
+    of_barrier();
+    of_mtoc();
+    of_ctom();
+    of_ctoc();
+    of_drop();
+    of_acquire();
+    of_release();
 }

@@ -17,9 +17,7 @@ fn main() {
     hand::sixteen();
     order::refusals();
     sound::conditions();
-    guards::reads_and_writes();
-    guards::moves();
-    guards::keeps_and_locks();
+    guards::guards();
     slips::slips();
     slips::damage();
     sound::checks();

@@ -12,9 +12,12 @@ use crate::cell::s0;
 use crate::cell::s1;
 use crate::cell::step;
 
-pub fn refusals() {
+fn number_2() {
     step(b"code 9", 5, s0(), act(9, 0, 0, 0, 0));
     step(b"all else good", 255, s0(), mtoc(0));
+}
+
+fn number_3() {
     step(b"code 9, board 2", 4, s0(), act(9, 2, 0, 0, 0));
     step(b"code 255", 4, s0(), act(255, 0, 0, 0, 0));
     step(b"Read with q 1", 4, cell(7, 0, 1, 0, 0), act(0, 0, 1, 0, 0));
@@ -42,6 +45,9 @@ pub fn refusals() {
         act(8, 0, 1, 0, 0),
     );
     step(b"Barrier with value 1", 4, s0(), act(2, 0, 0, 0, 1));
+}
+
+fn number_4() {
     step(b"Barrier 2", 4, s0(), barrier(2));
     step(b"Acquire 2 of cell 1", 2, s0(), act(7, 2, 0, 1, 0));
     step(b"Barrier 0", 1, s0(), barrier(0));
@@ -52,6 +58,9 @@ pub fn refusals() {
     step(b"Release 0", 0, s0(), release(0));
     step(b"Release 0", 1, s0(), release(0));
     step(b"Release 0", 2, s0(), release(0));
+}
+
+fn numbers_5_and_6() {
     step(b"Read 2 of cell 1", 4, s0(), act(0, 2, 0, 1, 0));
     step(
         b"CtoC 0 to 2 of cell 1",
@@ -80,6 +89,17 @@ pub fn refusals() {
         cell(7, 0, 1, 0, 0),
         act(0, 0, 0, 65535, 0),
     );
+}
+
+fn number_7() {
     step(b"not sound and not live", 4, s1(), read(1));
     step(b"not sound and dirty", 4, s1(), drop(0));
+}
+
+pub fn refusals() {
+    number_2();
+    number_3();
+    number_4();
+    numbers_5_and_6();
+    number_7();
 }

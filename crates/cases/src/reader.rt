@@ -65,7 +65,7 @@ pub fn files() {
     );
 }
 
-pub fn refused_files() {
+fn lengths() {
     read(
         b"read, 1 lent:",
         b"CCS\x01\x00\x04\x02\x02\x00\x07\x00\x00\x00\x00\x01\x00\x00\x03\x01\x00\x00\x00\x00\x00\x00\x00",
@@ -76,6 +76,9 @@ pub fn refused_files() {
         b"CCS\x01\x00\x04\x02\x02\x00\x07\x00\x00\x00\x00\x01\x00\x00\x03\x01\x00\x00\x00\x00\x00\x00\x00",
         3,
     );
+}
+
+fn heads() {
     read(b"read an empty file:", b"", 2);
     read(b"read 8 bytes, wrong mark:", b"CCT\x01\x00\x04\x02\x02", 2);
     read(
@@ -93,6 +96,9 @@ pub fn refused_files() {
         b"CCS\x01\x01\x04\x02\x02\x00\x07\x00\x00\x00\x00\x01\x00\x00",
         2,
     );
+}
+
+fn bodies() {
     read(
         b"read P 0, rule 5:",
         b"CCS\x01\x00\x05\x00\x02\x00\x07\x00\x00\x00\x00\x01\x00\x00",
@@ -135,4 +141,10 @@ pub fn refused_files() {
         b"CCS\x01\x00\x04\x02\x02\x00\x07\x00\x00\x00\x00\x01\x00\x00\x03\x01\x00\x00\x00\x00\x00\x00\x00\x03",
         2,
     );
+}
+
+pub fn refused_files() {
+    lengths();
+    heads();
+    bodies();
 }

@@ -144,7 +144,7 @@ pub fn files() {
     );
 }
 
-pub fn refused_files() {
+fn heads() {
     run(b"run an empty file:", b"", lent(1, 2, 3, 3, 3));
     run(
         b"run 8 bytes:",
@@ -186,6 +186,9 @@ pub fn refused_files() {
         b"CCS\x00\x00\x04\x00\x01\x00\x07\x00\x00\x00",
         lent(1, 2, 3, 3, 3),
     );
+}
+
+fn bodies() {
     run(
         b"run P 0, rule 5:",
         b"CCS\x01\x00\x05\x00\x01\x00\x07\x00\x00\x00",
@@ -236,6 +239,11 @@ pub fn refused_files() {
         b"CCS\x01\x00\x04\x02\x01\x00\x07\x00\x00\x00\x03\x00\x00\x00\x00\x00\x00\x00\x00\x03",
         lent(1, 2, 3, 0, 0),
     );
+}
+
+pub fn refused_files() {
+    heads();
+    bodies();
 }
 
 pub fn wrong_lengths() {

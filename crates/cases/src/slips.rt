@@ -13,7 +13,8 @@ use crate::cell::step;
 use crate::print;
 use protocol::Action;
 
-pub fn slips() {
+// Reading a copy as absent because it holds 0.
+fn absent_because_0() {
     step(
         b"slip: a live copy holds 0",
         0,
@@ -38,6 +39,10 @@ pub fn slips() {
         cell(0, 0, 1, 1, 0),
         acquire(1),
     );
+}
+
+// Refusing Drop on a board that isn't live, or Release on a board without the lock.
+fn drop_and_release() {
     step(b"slip: Drop, not live", 4, cell(0, 7, 2, 0, 0), drop(0));
     step(
         b"slip: Release, no lock",
@@ -57,7 +62,15 @@ pub fn slips() {
         cell(0, 0, 0, 0, 1),
         release(1),
     );
+}
+
+// Demanding a live copy before Acquire.
+fn acquire_not_live() {
     step(b"slip: Acquire, not live", 3, s0(), acquire(0));
+}
+
+// Testing under rule 1 whether main has changed instead of comparing values.
+fn main_changed() {
     step(
         b"slip: the current value is not main",
         1,
@@ -71,10 +84,18 @@ pub fn slips() {
         cell(7, 7, 3, 1, 0),
         read(1),
     );
+}
+
+// Marking the receiver dirty after CtoC from a dirty board.
+fn receiver_dirty() {
     step(b"slip: CtoC from a dirty board", 0, s1(), ctoc(0, 1));
     step(b"slip: CtoC from a dirty board", 1, s1(), ctoc(0, 1));
     step(b"slip: CtoC from a dirty board", 2, s1(), ctoc(0, 1));
     step(b"slip: CtoC from a dirty board", 3, s1(), ctoc(0, 1));
+}
+
+// Letting the holder of the lock use CtoC.
+fn holder_copies() {
     step(
         b"slip: CtoC by the holder",
         3,
@@ -87,6 +108,15 @@ pub fn slips() {
         cell(7, 0, 1, 0, 1),
         ctoc(0, 1),
     );
+}
+
+pub fn slips() {
+    absent_because_0();
+    drop_and_release();
+    acquire_not_live();
+    main_changed();
+    receiver_dirty();
+    holder_copies();
 }
 
 // One action on two cells of two boards, main 7 and 8: the first copy and the live mask of cell 0 are given, all else is 0.

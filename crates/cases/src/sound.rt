@@ -12,7 +12,7 @@ use crate::cell::s3;
 use crate::cell::step;
 use crate::print;
 
-pub fn conditions() {
+fn from_rule_0() {
     step(b"live bit at P", 0, cell(0, 0, 4, 0, 0), drop(0));
     step(b"dirty and live bit at P", 0, cell(0, 0, 4, 4, 0), drop(0));
     step(b"lock bit at P", 3, cell(0, 0, 0, 0, 4), drop(0));
@@ -23,6 +23,9 @@ pub fn conditions() {
     step(b"a lock", 2, cell(0, 0, 0, 0, 1), drop(0));
     step(b"a lock", 3, cell(0, 0, 0, 0, 1), drop(0));
     step(b"dirty and not live", 0, cell(0, 0, 0, 2, 0), drop(0));
+}
+
+fn from_rule_1() {
     step(b"two dirty", 0, cell(9, 8, 3, 3, 0), read(1));
     step(b"two dirty", 1, cell(9, 9, 3, 3, 0), read(1));
     step(b"an old copy", 1, cell(7, 5, 3, 0, 0), read(0));
@@ -37,6 +40,11 @@ pub fn conditions() {
     step(b"dirty with no lock", 3, s1(), ctom(0));
     step(b"dirty with no lock", 4, s1(), ctom(0));
     step(b"dirty with the lock", 4, cell(9, 0, 1, 1, 1), ctom(0));
+}
+
+pub fn conditions() {
+    from_rule_0();
+    from_rule_1();
 }
 
 // A check of three cells of two boards, main 7: cell 1 is given, and the first copy of cell 2, which is not live.

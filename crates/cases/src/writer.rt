@@ -34,7 +34,7 @@ fn written() {
     print::end();
 }
 
-pub fn writes() {
+fn room() {
     write(b"write, exact room:", 4, 2, 1, 1, 0, 13);
     write(b"write, room 12:", 4, 2, 1, 1, 0, 12);
     write(b"write a record, room 22:", 4, 2, 1, 1, 9, 22);
@@ -51,6 +51,9 @@ pub fn writes() {
     );
     write(b"write 4097 records:", 4, 16, 512, 512, 36873, 38930);
     write(b"write 4097 records, no room:", 4, 16, 512, 512, 36873, 0);
+}
+
+fn sizes() {
     write(b"write P 0:", 4, 0, 1, 1, 0, 13);
     write(b"write P 17:", 4, 17, 1, 1, 0, 13);
     write(b"write P 258:", 4, 258, 1, 1, 0, 13);
@@ -59,10 +62,19 @@ pub fn writes() {
     write(b"write N 65537:", 4, 2, 65537, 1, 0, 13);
     write(b"write starting 0:", 4, 2, 1, 0, 0, 13);
     write(b"write starting 2:", 4, 2, 1, 2, 0, 13);
+}
+
+fn order() {
     write(b"write P 0, rule 5:", 5, 0, 1, 1, 0, 13);
     write(b"write rule 5:", 5, 2, 1, 1, 0, 13);
     write(b"write rule 5, a part of a record:", 5, 2, 1, 1, 8, 21);
     write(b"write a part of a record:", 4, 2, 1, 1, 8, 21);
     write(b"write a part of a record, no room:", 4, 2, 1, 1, 8, 0);
     written();
+}
+
+pub fn writes() {
+    room();
+    sizes();
+    order();
 }
