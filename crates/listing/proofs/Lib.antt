@@ -6,4 +6,5 @@ pub mod LentLaws
 pub mod Decimals
 pub mod Unique
 pub mod Fits
+pub mod Cut
 pub mod Example
