@@ -7,4 +7,5 @@ pub mod Decimals
 pub mod Unique
 pub mod Fits
 pub mod Cut
+pub mod Room
 pub mod Example
