@@ -45,11 +45,11 @@ pub length-more : (n : ℕ) → 10 ≤ n → length (digits n) ≡ length (digit
 length-more n h = ap length (more n h) ∙ simp length-append
 
 -- how many digits there are at most
-abbrev power : ℕ → ℕ
+abbrev pub power : ℕ → ℕ
 power zero = 10
 power (suc k) = 10 * power k
 
-fewer : (k n : ℕ) → n < power k → length (digits n) ≤ suc k
+pub fewer : (k n : ℕ) → n < power k → length (digits n) ≤ suc k
 fewer zero n h = rw (small n h) (omega arith)
 fewer (suc k) n h = go (fewer k (n / 10)) (decLt n 10)
   where

@@ -6,4 +6,6 @@ pub mod LentLaws
 pub mod Decimals
 pub mod Unique
 pub mod Fits
+pub mod Cut
+pub mod Room
 pub mod Example

@@ -28,4 +28,5 @@ pub mod Demand3Order
 pub mod FreshLaws
 pub mod Demand3Reads
 pub mod FreshStaysSound
+pub mod SmallNumbers
 pub mod SixteenCases

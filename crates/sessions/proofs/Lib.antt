@@ -14,3 +14,4 @@ pub mod FinishLaws
 pub mod Unique
 pub mod FileRefused
 pub mod RunPromises
+pub mod SmallRun
