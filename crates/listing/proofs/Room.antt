@@ -1,12 +1,12 @@
--- No listing is longer than 94,232 bytes. Assumes nothing.
-use mathlib.Core.Path.{_≡_}
+-- No listing is longer than 94,232 bytes, so `list` never answers 20 where that many are lent. Assumes nothing.
+use mathlib.Core.Path.{_≡_, _∙_}
 use mathlib.Core.Bool.{Bool, true, false, cond}
 use mathlib.Core.List.{List, [], _∷_}
 use Prim.Native.Nat.{ℕ, suc, _+_, _-_, _*_, _<_, _≤_}
 use native.Mathlib.Omega.{arith}
 use native.Mathlib.Decide.{ℕ-discrete}
 use native.Mathlib.Nat.{mul-le-mul-left}
-use borrow.Author.Tests.{eq-eqb, ne-eqb}
+use borrow.Author.Tests.{le-ltb, eq-eqb, ne-eqb}
 use lib.Dec.{eqb}
 use lib.ListN.{length, length-append}
 use Rattle.protocol.specs.First.{Refusal, firstNumber}
@@ -18,6 +18,8 @@ use Rattle.sessions.specs.Run.{logOf, acceptedIn, staleOf}
 use Rattle.sessions.proofs.AcceptedLaws.{readable, few-records}
 use Rattle.sessions.proofs.RunPromises.{logged}
 use Rattle.sessions.proofs.SmallRun.{log-of-bytes, accepted-at-most, stale-at-most}
+use Rattle.listing.specs.declared.Listed.{Listed}
+use Rattle.listing.specs.Statements.{Lists}
 use Rattle.listing.specs.Listing.{recordLine, recordLines, refusedListing, runListing, refusalOf, listingOf}
 use Rattle.listing.proofs.DigitLaws.{fewer}
 use Rattle.listing.proofs.LineLaws.{length-one, length-three, length-four}
@@ -85,3 +87,6 @@ always-room file b = go (ℕ-discrete (refusalOf file) 0)
     go : Dec (refusalOf file ≡ 0) → length (cond (eqb (refusalOf file) 0) (runListing file) (refusedListing (refusalOf file))) ≤ 94232
     go (yes e) = rw (eq-eqb (refusalOf file) 0 e) (run-short file b e)
     go (no n) = rw (ne-eqb (refusalOf file) 0 n) (omega (arith, refused-short (refusalOf file) (refusal-up-to-19 file)))
+
+pub never-20 : (file old : List ℕ) (r : Listed) (out : List ℕ) → Below 256 file → 94232 ≤ length old → Lists file old r out → r .number ≡ 0
+never-20 file old r out b h s = s .number-is ∙ rw (le-ltb (length old) (length (listingOf file)) (omega (arith, always-room file b)))

@@ -32,37 +32,31 @@ inside t c =
     let d = c .before .before .decimal in
     omega (arith, d .kept .1 .0, d .ensures .0, length-more _ (c .before .before .before .before .if1 .left), c .before .before .before .before .before .before .pre .1)
 
--- src/decimal.rt:12:24
 decimal-cast-out :
     (t : ℕ) →
     decimal-lts.Need-cast-out (decimal-below t, decimal.Post) (decimal-at t) decimal.Post
 decimal-cast-out t c = omega arith
 
--- src/decimal.rt:12:19
 decimal-add-out :
     (t : ℕ) → decimal-lts.Need-add-out (decimal-below t, decimal.Post) (decimal-at t) decimal.Post
 decimal-add-out t c = omega arith
 
--- src/decimal.rt:12:9
 decimal-slice-write-out : (t : ℕ) → decimal-lts.Need-slice-write-out (
   decimal-below t,
   decimal.Post,
 ) (decimal-at t) decimal.Post
 decimal-slice-write-out t c = omega (arith, ap length (small _ (c .if1 .taken)))
 
--- src/decimal.rt:13:16
 decimal-add-result :
     (t : ℕ) →
     decimal-lts.Need-add-result (decimal-below t, decimal.Post) (decimal-at t) decimal.Post
 decimal-add-result t c = omega (arith, ap length (small _ (c .if1 .taken)))
 
--- src/decimal.rt:13:9
 decimal-same-length :
     (t : ℕ) →
     decimal-lts.Need-same-length (decimal-below t, decimal.Post) (decimal-at t) decimal.Post
 decimal-same-length t c = simp length-set
 
--- src/decimal.rt:13:9
 decimal-returns :
     (t : ℕ) → decimal-lts.Need-returns (decimal-below t, decimal.Post) (decimal-at t) decimal.Post
 decimal-returns t c = let a = c .before .before .args in
@@ -70,7 +64,6 @@ decimal-returns t c = let a = c .before .before .args in
     let h : a .at < length (a .out .now) = omega (arith, ap length e) in
     (rw e, rw e (write-first _ _ _ h))
 
--- src/decimal.rt:15:9
 decimal-decimal-requires : (t : ℕ) → decimal-lts.Need-decimal-requires (
   decimal-below t,
   decimal.Post,
@@ -78,38 +71,32 @@ decimal-decimal-requires : (t : ℕ) → decimal-lts.Need-decimal-requires (
 decimal-decimal-requires t c κs = let b = c .before .before .before in
     (omega (arith, b .pre .0), omega (arith, length-more _ (c .before .if1 .left)))
 
--- src/decimal.rt:16:22
 decimal-cast-out-2 :
     (t : ℕ) →
     decimal-lts.Need-cast-out-2 (decimal-below t, decimal.Post) (decimal-at t) decimal.Post
 decimal-cast-out-2 t c = omega arith
 
--- src/decimal.rt:16:17
 decimal-add-out-2 :
     (t : ℕ) →
     decimal-lts.Need-add-out-2 (decimal-below t, decimal.Post) (decimal-at t) decimal.Post
 decimal-add-out-2 t c = omega arith
 
--- src/decimal.rt:16:5
 decimal-slice-write-out-2 : (t : ℕ) → decimal-lts.Need-slice-write-out-2 (
   decimal-below t,
   decimal.Post,
 ) (decimal-at t) decimal.Post
 decimal-slice-write-out-2 t c = inside t c
 
--- src/decimal.rt:17:5
 decimal-add-result-2 :
     (t : ℕ) →
     decimal-lts.Need-add-result-2 (decimal-below t, decimal.Post) (decimal-at t) decimal.Post
 decimal-add-result-2 t c = omega (arith, inside t c)
 
--- src/decimal.rt:7:1
 decimal-same-length-2 :
     (t : ℕ) →
     decimal-lts.Need-same-length-2 (decimal-below t, decimal.Post) (decimal-at t) decimal.Post
 decimal-same-length-2 t c = simp length-set (c .before .before .decimal .kept .1 .0)
 
--- src/decimal.rt:7:1
 decimal-returns-2 :
     (t : ℕ) →
     decimal-lts.Need-returns-2 (decimal-below t, decimal.Post) (decimal-at t) decimal.Post

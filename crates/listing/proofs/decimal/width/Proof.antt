@@ -14,23 +14,18 @@ Inv-loop n rest₀ found₀ rest found = found + length (digits rest) ≡ 1 + le
 abbrev μ-loop : tie.MeasureT-loop
 μ-loop n rest₀ found₀ rest found = rest
 
--- src/decimal.rt:14:5
 loop-holds : tie.Need-loop-holds Inv-loop μ-loop
 loop-holds c = refl
 
--- src/decimal.rt:16:9
 add-found : tie.Need-add-found Inv-loop μ-loop
 add-found c = omega (arith, few-digits (c .before .before .args .n) (omega arith), c .before .loop .inv)
 
--- src/decimal.rt:14:5
 loop-less : tie.Need-loop-less Inv-loop μ-loop
 loop-less c = omega arith
 
--- src/decimal.rt:14:5
 loop-again : tie.Need-loop-again Inv-loop μ-loop
 loop-again c = omega (arith, length-more (c .before .loop .rest) (omega arith), c .before .loop .inv)
 
--- src/decimal.rt:9:1
 returns : tie.Need-returns Inv-loop μ-loop
 returns c = let l = c .before .loop in
     let n = c .before .before .args .n in

@@ -9,19 +9,15 @@ use borrow.Author.Needs.{needs}
 use Rattle.listing.proofs.line.put_four.Statement.{statement}
 use Rattle.listing.proofs.line.put_four.Tie as tie
 
--- src/line.rt:56:9
 put-number-requires : tie.Need-put-number-requires
 put-number-requires c κs = omega (arith, length-next (c .before .before .args .a) (c .before .before .args .b) (c .before .before .args .c ∷ c .before .before .args .d ∷ []))
 
--- src/line.rt:57:5
 put-three-requires : tie.Need-put-three-requires
 put-three-requires c κs = let p = c .before .before .before .put-number in omega (arith, p .kept .0, p .ensures .0, length-next (c .before .before .before .before .before .before .args .a) (c .before .before .before .before .before .before .args .b) (c .before .before .before .before .before .before .args .c ∷ c .before .before .before .before .before .before .args .d ∷ []), c .before .before .before .before .before .before .pre)
 
--- src/line.rt:52:1
 same-length : tie.Need-same-length
 same-length c = search needs
 
--- src/line.rt:52:1
 returns : tie.Need-returns
 returns c = let p = c .before .before .before .before .before .before .put-number in
     let q = c .before .before .put-three in

@@ -13,23 +13,18 @@ use Rattle.listing.proofs.line.put_number.Tie as tie
 inside : (c : tie.After-slice-known2) → c .before .before .before .before .before .args .at + length (digits (c .before .before .before .before .before .args .n)) < length (c .before .before .before .before .before .args .out .now)
 inside c = omega (arith, length-number (c .before .before .before .before .before .args .n) (c .before .before .before .before .before .args .end), c .before .before .before .before .before .pre)
 
--- src/line.rt:20:9
 decimal-requires : tie.Need-decimal-requires
 decimal-requires c κs = omega (arith, length-number (c .before .before .args .n) (c .before .before .args .end))
 
--- src/line.rt:21:5
 slice-write-out : tie.Need-slice-write-out
 slice-write-out c = let d = c .before .before .decimal in omega (arith, d .kept .1 .0, d .ensures .0, inside c)
 
--- src/line.rt:22:5
 add-result : tie.Need-add-result
 add-result c = let d = c .before .before .decimal in omega (arith, d .ensures .0, inside c)
 
--- src/line.rt:16:1
 same-length : tie.Need-same-length
 same-length c = search needs
 
--- src/line.rt:16:1
 returns : tie.Need-returns
 returns c = let d = c .before .before .decimal in
     (omega (arith, d .ensures .0, length-number (c .before .before .before .before .before .args .n) (c .before .before .before .before .before .args .end)), rw (d .ensures .0, d .ensures .1) (write-one _ _ _ _ (inside c)))

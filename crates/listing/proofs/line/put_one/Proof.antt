@@ -4,16 +4,13 @@ use borrow.Author.Needs.{needs}
 use Rattle.listing.proofs.line.put_one.Statement.{statement}
 use Rattle.listing.proofs.line.put_one.Tie as tie
 
--- src/line.rt:30:5
 put-number-requires : tie.Need-put-number-requires
 unfolding line
 put-number-requires c κs = c .before .before .pre
 
--- src/line.rt:26:1
 same-length : tie.Need-same-length
 same-length c = search needs
 
--- src/line.rt:26:1
 returns : tie.Need-returns
 unfolding line
 returns c = c .before .before .put-number .ensures

@@ -9,19 +9,15 @@ use borrow.Author.Needs.{needs}
 use Rattle.listing.proofs.line.put_three.Statement.{statement}
 use Rattle.listing.proofs.line.put_three.Tie as tie
 
--- src/line.rt:47:9
 put-number-requires : tie.Need-put-number-requires
 put-number-requires c κs = omega (arith, length-next (c .before .before .args .a) (c .before .before .args .b) (c .before .before .args .c ∷ []))
 
--- src/line.rt:48:5
 put-two-requires : tie.Need-put-two-requires
 put-two-requires c κs = let p = c .before .before .before .put-number in omega (arith, p .kept .0, p .ensures .0, length-next (c .before .before .before .before .before .before .args .a) (c .before .before .before .before .before .before .args .b) (c .before .before .before .before .before .before .args .c ∷ []), c .before .before .before .before .before .before .pre)
 
--- src/line.rt:43:1
 same-length : tie.Need-same-length
 same-length c = search needs
 
--- src/line.rt:43:1
 returns : tie.Need-returns
 returns c = let p = c .before .before .before .before .before .before .put-number in
     let q = c .before .before .put-two in

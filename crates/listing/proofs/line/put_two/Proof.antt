@@ -9,19 +9,15 @@ use borrow.Author.Needs.{needs}
 use Rattle.listing.proofs.line.put_two.Statement.{statement}
 use Rattle.listing.proofs.line.put_two.Tie as tie
 
--- src/line.rt:38:9
 put-number-requires : tie.Need-put-number-requires
 put-number-requires c κs = omega (arith, length-next (c .before .before .args .a) (c .before .before .args .b) [])
 
--- src/line.rt:39:5
 put-one-requires : tie.Need-put-one-requires
 put-one-requires c κs = let p = c .before .before .before .put-number in omega (arith, p .kept .0, p .ensures .0, length-next (c .before .before .before .before .before .before .args .a) (c .before .before .before .before .before .before .args .b) [], c .before .before .before .before .before .before .pre)
 
--- src/line.rt:34:1
 same-length : tie.Need-same-length
 same-length c = search needs
 
--- src/line.rt:34:1
 returns : tie.Need-returns
 returns c = let p = c .before .before .before .before .before .before .put-number in
     let q = c .before .before .put-one in

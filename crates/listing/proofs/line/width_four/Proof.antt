@@ -5,39 +5,30 @@ use borrow.Author.Needs.{needs}
 use Rattle.listing.proofs.line.width_four.Statement.{statement}
 use Rattle.listing.proofs.line.width_four.Tie as tie
 
--- src/line.rt:71:5
 width-requires : tie.Need-width-requires
 width-requires c κs = search needs
 
--- src/line.rt:71:25
 width-requires-2 : tie.Need-width-requires-2
 width-requires-2 c κs = search needs
 
--- src/line.rt:71:5
 add-result : tie.Need-add-result
 add-result c = search needs
 
--- src/line.rt:71:45
 width-requires-3 : tie.Need-width-requires-3
 width-requires-3 c κs = search needs
 
--- src/line.rt:71:5
 add-result-2 : tie.Need-add-result-2
 add-result-2 c = search needs
 
--- src/line.rt:71:65
 width-requires-4 : tie.Need-width-requires-4
 width-requires-4 c κs = search needs
 
--- src/line.rt:71:5
 add-result-3 : tie.Need-add-result-3
 add-result-3 c = search needs
 
--- src/line.rt:71:5
 add-result-4 : tie.Need-add-result-4
 add-result-4 c = search needs
 
--- src/line.rt:68:1
 returns : tie.Need-returns
 returns c = let w = c .before .before .before .width .ensures in
     let v = c .before .before .width2 .ensures in

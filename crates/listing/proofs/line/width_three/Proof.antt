@@ -5,31 +5,24 @@ use borrow.Author.Needs.{needs}
 use Rattle.listing.proofs.line.width_three.Statement.{statement}
 use Rattle.listing.proofs.line.width_three.Tie as tie
 
--- src/line.rt:64:5
 width-requires : tie.Need-width-requires
 width-requires c κs = search needs
 
--- src/line.rt:64:25
 width-requires-2 : tie.Need-width-requires-2
 width-requires-2 c κs = search needs
 
--- src/line.rt:64:5
 add-result : tie.Need-add-result
 add-result c = search needs
 
--- src/line.rt:64:45
 width-requires-3 : tie.Need-width-requires-3
 width-requires-3 c κs = search needs
 
--- src/line.rt:64:5
 add-result-2 : tie.Need-add-result-2
 add-result-2 c = search needs
 
--- src/line.rt:64:5
 add-result-3 : tie.Need-add-result-3
 add-result-3 c = search needs
 
--- src/line.rt:61:1
 returns : tie.Need-returns
 returns c = let w = c .before .before .width .ensures in
     let v = c .before .width2 .ensures in

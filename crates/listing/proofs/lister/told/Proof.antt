@@ -15,103 +15,79 @@ long : (c : tie.After-width-three2) → c .before .before .width-three .result +
 unfolding le16
 long c = let p = c .before .before .before .before .before .before .before .before .before .before .before .pre in long-run _ _ _ _ _ refl refl (p .accepted-is) (p .stale-is) _ _ _ (c .before .before .width-three .ensures .0) (c .before .records-width .ensures .0) (c .width-three2 .ensures .0)
 
--- src/lister.rt:63:16
 shared-slice-read-rule : tie.Need-shared-slice-read-rule
 shared-slice-read-rule c = search needs
 
--- src/lister.rt:63:16
 cast-rule : tie.Need-cast-rule
 cast-rule c = omega (arith, c .shared-slice-known4 .given 5)
 
--- src/lister.rt:64:18
 shared-slice-read-boards : tie.Need-shared-slice-read-boards
 shared-slice-read-boards c = search needs
 
--- src/lister.rt:64:18
 cast-boards : tie.Need-cast-boards
 cast-boards c = omega (arith, c .shared-slice-known5 .given 6)
 
--- src/lister.rt:65:17
 shared-slice-read-cells : tie.Need-shared-slice-read-cells
 shared-slice-read-cells c = search needs
 
--- src/lister.rt:65:17
 cast-cells : tie.Need-cast-cells
 cast-cells c = omega (arith, c .shared-slice-known6 .given 7)
 
--- src/lister.rt:65:36
 shared-slice-read-cells-2 : tie.Need-shared-slice-read-cells-2
 shared-slice-read-cells-2 c = search needs
 
--- src/lister.rt:65:36
 cast-cells-2 : tie.Need-cast-cells-2
 cast-cells-2 c = omega (arith, c .shared-slice-known7 .given 8)
 
--- src/lister.rt:65:36
 mul-cells : tie.Need-mul-cells
 mul-cells c = omega (arith, c .before .shared-slice-known6 .given 7, c .shared-slice-known7 .given 8)
 
--- src/lister.rt:65:17
 add-cells : tie.Need-add-cells
 add-cells c = omega (arith, c .before .shared-slice-known6 .given 7, c .shared-slice-known7 .given 8)
 
--- src/lister.rt:66:20
 mul-from : tie.Need-mul-from
 mul-from c = omega (arith, c .before .shared-slice-known6 .given 7, c .shared-slice-known7 .given 8)
 
--- src/lister.rt:66:16
 add-from : tie.Need-add-from
 add-from c = omega (arith, c .before .shared-slice-known6 .given 7, c .shared-slice-known7 .given 8)
 
--- src/lister.rt:67:18
 sub-count : tie.Need-sub-count
 unfolding le16
 sub-count c = omega (arith, c .before .before .before .before .before .before .before .before .pre .told .whole)
 
--- src/lister.rt:68:18
 width-three-requires : tie.Need-width-three-requires
 width-three-requires c κs = search needs
 
--- src/lister.rt:69:11
 records-width-requires : tie.Need-records-width-requires
 unfolding le16
 records-width-requires c κs = c .before .before .before .before .before .before .before .before .before .pre .told
 
--- src/lister.rt:68:18
 add-length : tie.Need-add-length
 add-length c = search needs
 
--- src/lister.rt:70:11
 width-three-requires-2 : tie.Need-width-three-requires-2
 width-three-requires-2 c κs = search needs
 
--- src/lister.rt:68:18
 add-length-2 : tie.Need-add-length-2
 add-length-2 c = search needs
 
--- src/lister.rt:72:9
 returns : tie.Need-returns
 returns c = no-room _ _ _ (long (c .before)) (c .if1 .taken)
 
--- src/lister.rt:77:9
 put-three-requires : tie.Need-put-three-requires
 put-three-requires c κs = search needs
 
--- src/lister.rt:78:9
 put-records-requires : tie.Need-put-records-requires
 unfolding le16
 put-records-requires c κs = let p = c .before .before .before .put-three in
     (c .before .before .before .before .before .before .before .before .before .before .before .before .before .before .before .before .before .pre .told, omega (arith, p .kept .0, p .ensures .0, c .before .before .before .before .before .before .before .before .width-three .ensures .0, c .before .before .before .before .before .before .before .records-width .ensures .0, c .before .before .before .before .before .if1 .left))
 
--- src/lister.rt:79:5
 put-three-requires-2 : tie.Need-put-three-requires-2
 put-three-requires-2 c κs = search needs
 
--- src/lister.rt:52:1
 same-length : tie.Need-same-length
 same-length c = search needs
 
--- src/lister.rt:52:1
 returns-2 : tie.Need-returns-2
 unfolding le16
 returns-2 c = let p = c .before .before .before .before .before .before .before .before .before .before .before .before .before .before .before .before .before .before .before .before .before .before .before .before .pre in

@@ -17,62 +17,48 @@ Inv-loop file from count numbers values out₀ at next₀ i₀ out next i = (i �
 abbrev μ-loop : tie.MeasureT-loop
 μ-loop file from count numbers values out₀ at next₀ i₀ out next i = count - i
 
--- src/records.rt:46:5
 loop-holds : tie.Need-loop-holds Inv-loop μ-loop
 loop-holds c = rw up-to-none (omega arith, refl, omega arith, written-none _ _)
 
--- src/records.rt:51:25
 mul-put-four : tie.Need-mul-put-four Inv-loop μ-loop
 mul-put-four c = omega (arith, c .before .before .before .before .before .before .before .pre .0 .few, c .before .before .before .before .before .before .before .pre .0 .few-before)
 
--- src/records.rt:51:18
 add-put-four : tie.Need-add-put-four Inv-loop μ-loop
 add-put-four c = omega (arith, c .before .before .before .before .before .before .before .pre .0 .few, c .before .before .before .before .before .before .before .pre .0 .few-before)
 
--- src/records.rt:51:13
 shared-slice-read-put-four : tie.Need-shared-slice-read-put-four Inv-loop μ-loop
 shared-slice-read-put-four c = omega (arith, c .before .before .before .before .before .before .before .before .pre .0 .whole)
 
--- src/records.rt:51:13
 cast-put-four : tie.Need-cast-put-four Inv-loop μ-loop
 cast-put-four c = omega (arith, c .shared-slice-known4 .given (c .before .before .before .before .before .before .before .before .args .from + 9 * c .before .before .before .loop .i))
 
--- src/records.rt:52:13
 shared-slice-read-put-four-2 : tie.Need-shared-slice-read-put-four-2 Inv-loop μ-loop
 shared-slice-read-put-four-2 c = omega (arith, c .before .before .before .before .before .before .before .before .before .pre .0 .room-numbers)
 
--- src/records.rt:52:13
 cast-put-four-2 : tie.Need-cast-put-four-2 Inv-loop μ-loop
 cast-put-four-2 c = omega (arith, c .shared-slice-known5 .given (c .before .before .before .before .loop .i))
 
--- src/records.rt:53:13
 mul-put-four-2 : tie.Need-mul-put-four-2 Inv-loop μ-loop
 mul-put-four-2 c = omega (arith, c .before .before .before .before .before .before .before .before .before .pre .0 .few)
 
--- src/records.rt:53:13
 shared-slice-read-put-four-3 : tie.Need-shared-slice-read-put-four-3 Inv-loop μ-loop
 shared-slice-read-put-four-3 c = omega (arith, c .before .before .before .before .before .before .before .before .before .before .pre .0 .room-values)
 
--- src/records.rt:53:13
 cast-put-four-3 : tie.Need-cast-put-four-3 Inv-loop μ-loop
 cast-put-four-3 c = omega (arith, c .shared-slice-known6 .given (c .before .before .before .before .before .loop .i))
 
--- src/records.rt:47:9
 put-four-requires : tie.Need-put-four-requires Inv-loop μ-loop
 put-four-requires c κs = let l = c .before .before .before .before .before .loop in
     let p = c .before .before .before .before .before .before .before .before .before .before .pre in
     let h = c .before .before .before .before .loop-test .taken in
     omega (arith, l .inv .1, l .inv .2, p .1, within _ _ _ _ _ (p .0) (l .i) h, length-more _ _ _ _ _ (p .0) (l .i) h)
 
--- src/records.rt:55:9
 add-i : tie.Need-add-i Inv-loop μ-loop
 add-i c = omega arith
 
--- src/records.rt:46:5
 loop-less : tie.Need-loop-less Inv-loop μ-loop
 loop-less c = omega arith
 
--- src/records.rt:46:5
 loop-again : tie.Need-loop-again Inv-loop μ-loop
 loop-again c = let l = c .before .before .before .before .before .before .before .before .loop in
     let a = c .before .before .before .before .before .before .before .before .before .before .before .before .before .args in
@@ -81,11 +67,9 @@ loop-again c = let l = c .before .before .before .before .before .before .before
     let q = c .before .before .put-four in
     (omega arith, q .kept .0 ∙ l .inv .1, omega (arith, q .ensures .0, l .inv .2, length-more _ _ _ _ _ (p .0) (l .i) h), q .ensures .1 ∙ ap (written (line (l .i) (getD (a .file .now) (a .from + 9 * l .i) 0 ∷ getD (a .numbers .now) (l .i) 0 ∷ getD (a .values .now) (l .i) 0 ∷ [])) (l .next)) (l .inv .3) ∙ written-up-to _ _ _ _ _ (p .0) (l .i) h (l .next) (a .at) (a .out .now) (l .inv .2) (p .1))
 
--- src/records.rt:32:1
 same-length : tie.Need-same-length Inv-loop μ-loop
 same-length c = c .before .loop .inv .1
 
--- src/records.rt:32:1
 returns : tie.Need-returns Inv-loop μ-loop
 returns c = let l = c .before .loop in
     let e : l .i ≡ c .before .before .before .before .before .before .args .count = omega arith in

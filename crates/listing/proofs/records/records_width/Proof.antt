@@ -14,68 +14,52 @@ Inv-loop file from count numbers values sum₀ i₀ sum i = (i ≤ count) × (su
 abbrev μ-loop : tie.MeasureT-loop
 μ-loop file from count numbers values sum₀ i₀ sum i = count - i
 
--- src/records.rt:24:5
 loop-holds : tie.Need-loop-holds Inv-loop μ-loop
 loop-holds c = (omega arith, omega arith, sym (ap length (up-to-none _)))
 
--- src/records.rt:25:48
 mul-width-four : tie.Need-mul-width-four Inv-loop μ-loop
 mul-width-four c = omega (arith, c .before .before .before .before .before .pre .few, c .before .before .before .before .before .pre .few-before)
 
--- src/records.rt:25:41
 add-width-four : tie.Need-add-width-four Inv-loop μ-loop
 add-width-four c = omega (arith, c .before .before .before .before .before .pre .few, c .before .before .before .before .before .pre .few-before)
 
--- src/records.rt:25:36
 shared-slice-read-width-four : tie.Need-shared-slice-read-width-four Inv-loop μ-loop
 shared-slice-read-width-four c = omega (arith, c .before .before .before .before .before .before .pre .whole)
 
--- src/records.rt:25:36
 cast-width-four : tie.Need-cast-width-four Inv-loop μ-loop
 cast-width-four c = omega (arith, c .shared-slice-known4 .given (c .before .before .before .before .before .before .args .from + 9 * c .before .before .loop .i))
 
--- src/records.rt:25:65
 shared-slice-read-width-four-2 : tie.Need-shared-slice-read-width-four-2 Inv-loop μ-loop
 shared-slice-read-width-four-2 c = omega (arith, c .before .before .before .before .before .before .before .pre .room-numbers)
 
--- src/records.rt:25:65
 cast-width-four-2 : tie.Need-cast-width-four-2 Inv-loop μ-loop
 cast-width-four-2 c = omega (arith, c .shared-slice-known5 .given (c .before .before .before .loop .i))
 
--- src/records.rt:25:86
 mul-width-four-2 : tie.Need-mul-width-four-2 Inv-loop μ-loop
 mul-width-four-2 c = omega (arith, c .before .before .before .before .before .before .before .pre .few)
 
--- src/records.rt:25:86
 shared-slice-read-width-four-3 : tie.Need-shared-slice-read-width-four-3 Inv-loop μ-loop
 shared-slice-read-width-four-3 c = omega (arith, c .before .before .before .before .before .before .before .before .pre .room-values)
 
--- src/records.rt:25:86
 cast-width-four-3 : tie.Need-cast-width-four-3 Inv-loop μ-loop
 cast-width-four-3 c = omega (arith, c .shared-slice-known6 .given (c .before .before .before .before .loop .i))
 
--- src/records.rt:25:16
 width-four-requires : tie.Need-width-four-requires Inv-loop μ-loop
 width-four-requires c κs = search needs
 
--- src/records.rt:25:9
 add-sum : tie.Need-add-sum Inv-loop μ-loop
 add-sum c = omega (arith, c .before .before .before .before .before .loop .inv .1, c .width-four .ensures .1, c .before .before .before .before .before .before .before .before .before .pre .few)
 
--- src/records.rt:26:9
 add-i : tie.Need-add-i Inv-loop μ-loop
 add-i c = omega arith
 
--- src/records.rt:24:5
 loop-less : tie.Need-loop-less Inv-loop μ-loop
 loop-less c = omega arith
 
--- src/records.rt:24:5
 loop-again : tie.Need-loop-again Inv-loop μ-loop
 loop-again c = let l = c .before .before .before .before .before .loop in
     (omega arith, omega (arith, l .inv .1, c .width-four .ensures .1), omega (arith, l .inv .2, c .width-four .ensures .0, length-more _ _ _ _ _ (c .before .before .before .before .before .before .before .before .before .pre) (l .i) (c .before .before .before .before .loop-test .taken)))
 
--- src/records.rt:12:1
 returns : tie.Need-returns Inv-loop μ-loop
 returns c = let l = c .before .loop in
     let e : l .i ≡ c .before .before .before .before .before .args .count = omega arith in
