@@ -17,12 +17,13 @@ use Rattle.protocol.proofs.Booleans.{clash, or-left, or-right}
 use Rattle.protocol.proofs.InWords.{range-exactly}
 use Rattle.sessions.specs.File.{marked, versionIn, ruleIn, boardsIn, cellsIn, actionAt}
 use Rattle.sessions.specs.FileRefusals.{headRefusals, bodyRefusals, recordsBad, bodyBad, readRefusals, countIn, runRefusals}
+use Rattle.sessions.specs.Run.{lineOfRecord}
 use Rattle.sessions.specs.Statements.{Runs}
 use Rattle.sessions.specs.declared.Report.{Report}
 use Rattle.sessions.proofs.AcceptedLaws.{readable}
-use Rattle.sessions.proofs.RunPromises.{logged, lineAt, its-action, in-slice}
+use Rattle.sessions.proofs.RunPromises.{logged, its-action, in-slice}
 use Rattle.listing.specs.Listing.{refusalOf}
-use Rattle.listing.specs.Code.{lineOfRecord, RunTold, Lent, Sized}
+use Rattle.listing.specs.Code.{RunTold, Lent, Sized}
 
 -- ---- the refusals
 
@@ -106,15 +107,13 @@ few-copies file boards cells l = omega (arith, mul-le-mul-left cells (l .few-boa
 module _ (file m k w numbers values : List ℕ) (r : Report) (m′ k′ w′ numbers′ values′ : List ℕ) (s : Runs file m k w numbers values r m′ k′ w′ numbers′ values′) (ok : r .number ≡ 0)
     (e : refusalOf file ≡ 0) (a : 4096 ≤ length numbers′) (b : 4096 ≤ length values′) where
   code-of : (i : ℕ) → i < countIn file → getD file (9 + 4 * cellsIn file + 9 * i) 0 ≡ lineOfRecord file i .action .code
-  unfolding actionAt lineAt lineOfRecord
+  unfolding actionAt
   code-of i h = sym (getD-drop (9 + 4 * cellsIn file) file (9 * i) 0) ∙ sym (ap (λ (x : Action). x .code) (its-action file i h))
 
   number-of : (i : ℕ) → i < countIn file → getD numbers′ i 0 ≡ lineOfRecord file i .told .number
-  unfolding lineAt lineOfRecord
   number-of i h = in-slice file m k w numbers values r m′ k′ w′ numbers′ values′ s ok (λ l. l .told .number) numbers numbers′ (s .numbers-are) i h
 
   value-of : (i : ℕ) → i < countIn file → getD values′ i 0 ≡ lineOfRecord file i .told .value
-  unfolding lineAt lineOfRecord
   value-of i h = in-slice file m k w numbers values r m′ k′ w′ numbers′ values′ s ok (λ l. l .told .value) values values′ (s .values-are) i h
 
   pub run-told : RunTold file numbers′ values′ (r .accepted) (r .stale)

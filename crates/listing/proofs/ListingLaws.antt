@@ -12,10 +12,10 @@ use Rattle.protocol.specs.Runs.{Line}
 use Rattle.sessions.specs.Written.{written}
 use Rattle.sessions.specs.File.{ruleIn, boardsIn, cellsIn}
 use Rattle.sessions.specs.FileRefusals.{countIn}
-use Rattle.sessions.specs.Run.{logOf, acceptedIn, staleOf}
+use Rattle.sessions.specs.Run.{logOf, noLine, lineOfRecord, acceptedIn, staleOf}
 use Rattle.sessions.proofs.WrittenLaws.{written-more, in-front}
 use Rattle.listing.specs.Listing.{line, recordLine, recordLines, refusedWord, refusedListing, runListing, refusalOf, listingOf}
-use Rattle.listing.specs.Code.{noLine, lineOfRecord, Told, Puts}
+use Rattle.listing.specs.Code.{Told, Puts}
 use Rattle.listing.specs.declared.Listed.{Listed}
 use Rattle.listing.specs.Statements.{Lists}
 
