@@ -18,9 +18,11 @@ use Rattle.protocol.proofs.InWords.{range-exactly}
 use Rattle.sessions.specs.File.{marked, versionIn, ruleIn, boardsIn, cellsIn, actionAt}
 use Rattle.sessions.specs.FileRefusals.{headRefusals, bodyRefusals, recordsBad, bodyBad, readRefusals, countIn, runRefusals}
 use Rattle.sessions.specs.Run.{lineOfRecord}
-use Rattle.sessions.specs.Statements.{Runs}
+use Rattle.sessions.specs.Statements.{SizesIn, Runs}
 use Rattle.sessions.specs.declared.Report.{Report}
+use Rattle.sessions.specs.declared.Sizes.{Sizes}
 use Rattle.sessions.proofs.AcceptedLaws.{readable}
+use Rattle.sessions.proofs.BytesLaws.{sizes-are}
 use Rattle.sessions.proofs.RunPromises.{logged, its-action, in-slice}
 use Rattle.listing.specs.Listing.{refusalOf}
 use Rattle.listing.specs.Code.{RunTold, Lent, Sized}
@@ -66,23 +68,24 @@ module _ (file : List ℕ) (t : Table) (numbers values : ℕ) (fits : Sized file
 
 -- ---- what is lent
 
-module _ (file : List ℕ) (boards cells : ℕ) (p : boards ≡ boardsIn file) (n : cells ≡ cellsIn file) where
-  pub out-of-range : (ltb 16 boards || ltb 512 cells) ≡ true → Lent file 0 0
+module _ (file : List ℕ) (r : Sizes) (s : SizesIn file r) where
+  pub out-of-range : (ltb 16 (r .boards) || ltb 512 (r .cells)) ≡ true → Lent file 0 0
   out-of-range h = record {
     few-boards = omega arith;
     few-cells = omega arith;
     right = λ l e.
-        let r = range-exactly (boardsIn file) (cellsIn file) .0 e in
-        let x : ltb 16 boards ≡ false = le-ltb 16 boards (omega (arith, r .0 .1)) in
-        let y : ltb 512 cells ≡ false = le-ltb 512 cells (omega (arith, r .1 .1)) in
+        let range = range-exactly (boardsIn file) (cellsIn file) .0 e in
+        let said = sizes-are file r s l in
+        let x : ltb 16 (r .boards) ≡ false = le-ltb 16 (r .boards) (omega (arith, said .0, range .0 .1)) in
+        let y : ltb 512 (r .cells) ≡ false = le-ltb 512 (r .cells) (omega (arith, said .1, range .1 .1)) in
         absurd (clash h (rw (x, y)));
   }
 
-  pub in-range : (ltb 16 boards || ltb 512 cells) ≡ false → Lent file boards cells
+  pub in-range : (ltb 16 (r .boards) || ltb 512 (r .cells)) ≡ false → Lent file (r .boards) (r .cells)
   in-range h = record {
-    few-boards = ltb-false 16 boards (or-left (ltb 16 boards) (ltb 512 cells) h);
-    few-cells = ltb-false 512 cells (or-right (ltb 16 boards) (ltb 512 cells) h);
-    right = λ l e. (p, n);
+    few-boards = ltb-false 16 (r .boards) (or-left (ltb 16 (r .boards)) (ltb 512 (r .cells)) h);
+    few-cells = ltb-false 512 (r .cells) (or-right (ltb 16 (r .boards)) (ltb 512 (r .cells)) h);
+    right = λ l e. sizes-are file r s l;
   }
 
 module _ (file : List ℕ) (boards cells : ℕ) (l : Lent file boards cells) (m k w : List ℕ) (a : length m ≡ cells) (b : length k ≡ cells * boards) (c : length w ≡ cells * 3) where

@@ -44,13 +44,13 @@ module _ (file m k w numbers values : List ℕ) (ok : Runnable file (tableOf m k
     room-latest = omega arith;
   }
 
-  module _ (n : ℕ) (is-n : n ≡ cellsIn file) (latest₁ : List ℕ) (is-latest : latest₁ ≡ startingIn file) (fresh : Answer) (m₁ k₁ w₁ : List ℕ)
-      (made : Freshens (boardsIn file) n m k w latest₁ fresh m₁ k₁ w₁) where
+  module _ (p n : ℕ) (is-p : p ≡ boardsIn file) (is-n : n ≡ cellsIn file) (latest₁ : List ℕ) (is-latest : latest₁ ≡ startingIn file) (fresh : Answer) (m₁ k₁ w₁ : List ℕ)
+      (made : Freshens p n m k w latest₁ fresh m₁ k₁ w₁) where
     abbrev start : Table
     start = freshTable (boardsIn file) (startingIn file)
 
     made′ : Freshens (boardsIn file) (cellsIn file) m k w (startingIn file) fresh m₁ k₁ w₁
-    made′ = rw (is-n, is-latest) at made
+    made′ = rw (is-p, is-n, is-latest) at made
 
     fresh-0 : fresh .number ≡ 0
     fresh-0 = made′ .number ∙ fresh-accepted (boardsIn file) (cellsIn file) (startingIn file) (tableOf m k w) .1 (ok .sized, starts)
@@ -59,9 +59,9 @@ module _ (file m k w numbers values : List ℕ) (ok : Runnable file (tableOf m k
     is-start = fresh-gives (boardsIn file) (cellsIn file) m k w (startingIn file) fresh m₁ k₁ w₁ made′ fresh-0
 
     module _ (records : List ℕ) (is-records : records ≡ recordsIn file) (accepted : ℕ) (m₂ k₂ w₂ numbers₂ values₂ latest₂ : List ℕ)
-        (ran : Ran (ruleIn file) (boardsIn file) n m₁ k₁ w₁ numbers values latest₁ (actionsIn records) accepted m₂ k₂ w₂ numbers₂ values₂ latest₂) where
+        (ran : Ran (ruleIn file) p n m₁ k₁ w₁ numbers values latest₁ (actionsIn records) accepted m₂ k₂ w₂ numbers₂ values₂ latest₂) where
       ran′ : Ran (ruleIn file) (boardsIn file) (cellsIn file) m₁ k₁ w₁ numbers values (startingIn file) (actionsOf file) accepted m₂ k₂ w₂ numbers₂ values₂ latest₂
-      ran′ = rw (is-n, is-latest, is-records) at ran
+      ran′ = rw (is-p, is-n, is-latest, is-records) at ran
 
       ends : Holds (endOf file) m₂ k₂ w₂
       unfolding endOf
@@ -77,27 +77,27 @@ module _ (file m k w numbers values : List ℕ) (ok : Runnable file (tableOf m k
       counted : length (actionsOf file) ≡ countIn file
       counted = length-actions (recordsIn file) 0 (length (recordsIn file) / 9) ∙ few-in
 
-      pub countable : Counted (boardsIn file) n k₂ w₂ latest₂
+      pub countable : Counted p n k₂ w₂ latest₂
       unfolding width
       countable =
           let lengths = sizes-exactly (boardsIn file) (cellsIn file) (endOf file) .0 end-good .1 in
           record {
-            few-boards = ok .readable-too .sizes .few-boards;
+            few-boards = rw is-p (ok .readable-too .sizes .few-boards);
             few-cells = rw is-n (ok .readable-too .sizes .few-cells);
-            copied = rw (is-n, ends .holds-copies) (lengths copies);
+            copied = rw (is-p, is-n, ends .holds-copies) (lengths copies);
             masked = rw (is-n, ends .holds-masks) (lengths masks);
             known = rw (ran .same-length, is-n, is-latest, starts) (omega arith);
           }
 
       pub finished : (stale : ℕ) →
-          ((main : List ℕ) → sizesGood (boardsIn file) n (tableOf main k₂ w₂) ≡ true → stale ≡ staleIn (boardsIn file) n (tableOf main k₂ w₂) (λ c. getD latest₂ c 0)) →
+          ((main : List ℕ) → sizesGood p n (tableOf main k₂ w₂) ≡ true → stale ≡ staleIn p n (tableOf main k₂ w₂) (λ c. getD latest₂ c 0)) →
           Finished file numbers values (record { number = fresh .number; accepted = accepted; stale = stale }) m₂ k₂ w₂ numbers₂ values₂
       unfolding logOf staleOf
       finished stale s = record {
         number-is = fresh-0;
         accepted-is = rw is-start at (ran′ .accepted);
         stale-is =
-            rw is-n at (s m₂ (rw (is-n, is-end) end-good))
+            rw (is-p, is-n) at (s m₂ (rw (is-p, is-n, is-end) end-good))
             ∙ rw is-end (ap (staleIn (boardsIn file) (cellsIn file) (endOf file)) (fun-ext (λ c. rw is-start at (ran′ .latest-are c))));
         table-is = ends;
         numbers-are = rw (is-start, counted) at (ran′ .numbers-are);

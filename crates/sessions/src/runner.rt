@@ -37,14 +37,13 @@ pub fn refusal(
     if head != protocol::ACCEPTED {
         return head;
     }
-    let boards = file[6] as usize;
-    let cells = bytes::read16(file, 7) as usize;
-    let fits = table_fits(boards, cells, main, copies, masks);
-    let body = refusals::body_refusal(!fits, file[5], refusals::body_bad(file, cells));
+    let sizes = crate::sizes_in(file);
+    let fits = table_fits(sizes.boards, sizes.cells, main, copies, masks);
+    let body = refusals::body_refusal(!fits, file[5], refusals::body_bad(file, sizes.cells));
     if body != protocol::ACCEPTED {
         return body;
     }
-    let count = (file.len() - (9 + 4 * cells)) / 9;
+    let count = (file.len() - (9 + 4 * sizes.cells)) / 9;
     if (numbers < count) | (values < count) {
         return protocol::NO_ROOM;
     }
@@ -64,15 +63,14 @@ fn perform(
     requires { ⌜ (firstNumber (runRefusals (now file) (tableOf (now main) (now copies) (now masks)) (length (now numbers)) (length (now values))) ≡ 0) × (length (now latest) ≡ cellsIn (now file)) ⌝ }
     ensures { λ r. ⌜ Finished (now (file .entry)) (now (numbers .entry)) (now (values .entry)) r (now (main .exit)) (now (copies .exit)) (now (masks .exit)) (now (numbers .exit)) (now (values .exit)) ⌝ }
 {
-    let boards = file[6] as usize;
-    let cells = bytes::read16(file, 7) as usize;
+    let sizes = crate::sizes_in(file);
     bytes::read_values(file, 9, latest);
-    let fresh = table::fresh(boards, cells, latest, main, copies, masks);
+    let fresh = table::fresh(sizes.boards, sizes.cells, latest, main, copies, masks);
     let accepted = records::perform_all(
         file[5],
-        boards,
-        cells,
-        bytes::tail(file, 9 + 4 * cells),
+        sizes.boards,
+        sizes.cells,
+        bytes::tail(file, 9 + 4 * sizes.cells),
         main,
         copies,
         masks,
@@ -84,7 +82,7 @@ fn perform(
     Report {
         number: fresh.number,
         accepted,
-        stale: stale::count(boards, cells, copies, masks, latest),
+        stale: stale::count(sizes.boards, sizes.cells, copies, masks, latest),
     }
 }
 
@@ -100,7 +98,7 @@ pub fn with_latest(
     requires { ⌜ firstNumber (runRefusals (now file) (tableOf (now main) (now copies) (now masks)) (length (now numbers)) (length (now values))) ≡ 0 ⌝ }
     ensures { λ r. ⌜ Finished (now (file .entry)) (now (numbers .entry)) (now (values .entry)) r (now (main .exit)) (now (copies .exit)) (now (masks .exit)) (now (numbers .exit)) (now (values .exit)) ⌝ }
 {
-    let cells = bytes::read16(file, 7) as usize;
+    let sizes = crate::sizes_in(file);
     let mut latest = [0u32; 512];
     perform(
         file,
@@ -109,6 +107,6 @@ pub fn with_latest(
         masks,
         numbers,
         values,
-        &mut latest[..cells],
+        &mut latest[..sizes.cells],
     )
 }

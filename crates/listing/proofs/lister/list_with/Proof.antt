@@ -12,73 +12,56 @@ use Rattle.listing.proofs.lister.list_with.Tie as tie
 alike : (c : tie.After-run) → c .run .result .number ≡ refusalOf (c .before .before .before .before .before .before .before .before .before .before .before .before .before .args .file .now)
 alike c = let p = c .before .before .before .before .before .before .before .before .before .before .before .before .before .pre in c .run .ensures .number-is ∙ refused-alike _ _ _ _ (p .0) (p .1) (p .2)
 
--- src/lister.rt:99:9
 run-requires : tie.Need-run-requires
 run-requires c κs = search needs
 
--- src/lister.rt:101:9
 refused-requires : tie.Need-refused-requires
 refused-requires c κs = search needs
 
--- src/lister.rt:101:9
 same-length : tie.Need-same-length
 same-length c = search needs
 
--- src/lister.rt:101:9
 same-length-2 : tie.Need-same-length-2
 same-length-2 c = search needs
 
--- src/lister.rt:101:9
 same-length-3 : tie.Need-same-length-3
 same-length-3 c = search needs
 
--- src/lister.rt:101:9
 same-length-4 : tie.Need-same-length-4
 same-length-4 c = search needs
 
--- src/lister.rt:101:9
 same-length-5 : tie.Need-same-length-5
 same-length-5 c = search needs
 
--- src/lister.rt:101:9
 same-length-6 : tie.Need-same-length-6
 same-length-6 c = search needs
 
--- src/lister.rt:101:9
 returns : tie.Need-returns
 returns c = lists-refused _ _ _ _ _ (alike (c .before .before .before .before .before .before .before .before .before .before .before .before .before .before .before .before)) (c .before .before .before .before .if1 .taken) (c .before .before .refused .ensures)
 
--- src/lister.rt:103:5
 told-requires : tie.Need-told-requires
 told-requires c κs = let r = c .before .before .before .before .before .before .before .before .before .before .before .before .before .before .before .run in
     let p = c .before .before .before .before .before .before .before .before .before .before .before .before .before .before .before .before .before .before .before .before .before .before .before .before .before .before .before .before .pre in
     run-told _ _ _ _ _ _ _ _ _ _ _ _ (r .ensures) (c .before .before .before .if1 .left) (sym (alike (c .before .before .before .before .before .before .before .before .before .before .before .before .before .before .before)) ∙ c .before .before .before .if1 .left) (omega (arith, r .kept .1 .1 .1 .1 .0, p .1)) (omega (arith, r .kept .1 .1 .1 .1 .1 .0, p .2))
 
--- src/lister.rt:87:1
 same-length-7 : tie.Need-same-length-7
 same-length-7 c = search needs
 
--- src/lister.rt:87:1
 same-length-8 : tie.Need-same-length-8
 same-length-8 c = search needs
 
--- src/lister.rt:87:1
 same-length-9 : tie.Need-same-length-9
 same-length-9 c = search needs
 
--- src/lister.rt:87:1
 same-length-10 : tie.Need-same-length-10
 same-length-10 c = search needs
 
--- src/lister.rt:87:1
 same-length-11 : tie.Need-same-length-11
 same-length-11 c = search needs
 
--- src/lister.rt:87:1
 same-length-12 : tie.Need-same-length-12
 same-length-12 c = search needs
 
--- src/lister.rt:87:1
 returns-2 : tie.Need-returns-2
 returns-2 c = lists-run _ _ _ _ (sym (alike (c .before .before .before .before .before .before .before .before .before .before .before .before .before .before .before .before .before .before)) ∙ c .before .before .before .before .before .before .if1 .left) (c .before .before .told .ensures)
 

@@ -6,75 +6,57 @@ use borrow.Author.Needs.{needs}
 use Rattle.listing.proofs.lister.put_word.Statement.{statement}
 use Rattle.listing.proofs.lister.put_word.Tie as tie
 
--- src/lister.rt:22:14
 element-copy-out-out : tie.Need-element-copy-out-out
 element-copy-out-out c = search needs
 
--- src/lister.rt:22:5
 slice-write-out : tie.Need-slice-write-out
 slice-write-out c = search needs
 
--- src/lister.rt:23:14
 element-copy-out-out-2 : tie.Need-element-copy-out-out-2
 element-copy-out-out-2 c = search needs
 
--- src/lister.rt:23:5
 slice-write-out-2 : tie.Need-slice-write-out-2
 slice-write-out-2 c = simp length-set (omega arith)
 
--- src/lister.rt:24:14
 element-copy-out-out-3 : tie.Need-element-copy-out-out-3
 element-copy-out-out-3 c = search needs
 
--- src/lister.rt:24:5
 slice-write-out-3 : tie.Need-slice-write-out-3
 slice-write-out-3 c = simp length-set (omega arith)
 
--- src/lister.rt:25:14
 element-copy-out-out-4 : tie.Need-element-copy-out-out-4
 element-copy-out-out-4 c = search needs
 
--- src/lister.rt:25:5
 slice-write-out-4 : tie.Need-slice-write-out-4
 slice-write-out-4 c = simp length-set (omega arith)
 
--- src/lister.rt:26:14
 element-copy-out-out-5 : tie.Need-element-copy-out-out-5
 element-copy-out-out-5 c = search needs
 
--- src/lister.rt:26:5
 slice-write-out-5 : tie.Need-slice-write-out-5
 slice-write-out-5 c = simp length-set (omega arith)
 
--- src/lister.rt:27:14
 element-copy-out-out-6 : tie.Need-element-copy-out-out-6
 element-copy-out-out-6 c = search needs
 
--- src/lister.rt:27:5
 slice-write-out-6 : tie.Need-slice-write-out-6
 slice-write-out-6 c = simp length-set (omega arith)
 
--- src/lister.rt:28:14
 element-copy-out-out-7 : tie.Need-element-copy-out-out-7
 element-copy-out-out-7 c = search needs
 
--- src/lister.rt:28:5
 slice-write-out-7 : tie.Need-slice-write-out-7
 slice-write-out-7 c = simp length-set (omega arith)
 
--- src/lister.rt:29:14
 element-copy-out-out-8 : tie.Need-element-copy-out-out-8
 element-copy-out-out-8 c = search needs
 
--- src/lister.rt:29:5
 slice-write-out-8 : tie.Need-slice-write-out-8
 slice-write-out-8 c = simp length-set (omega arith)
 
--- src/lister.rt:17:1
 same-length : tie.Need-same-length
 same-length c = simp length-set
 
--- src/lister.rt:17:1
 returns : tie.Need-returns
 returns c = stores _ 0 _ (c .before .before .before .before .before .before .before .before .before .pre)
 

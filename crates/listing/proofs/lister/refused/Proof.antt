@@ -16,31 +16,24 @@ use Rattle.listing.proofs.lister.refused.Tie as tie
 long : (c : tie.After-width) → c .width .result + 9 ≡ length (refusedListing (c .before .before .args .number))
 long c = omega (arith, c .width .ensures .0, length-refused (c .before .before .args .number), length-one (c .before .before .args .number))
 
--- src/lister.rt:36:18
 width-requires : tie.Need-width-requires
 width-requires c κs = search needs
 
--- src/lister.rt:36:18
 add-length : tie.Need-add-length
 add-length c = search needs
 
--- src/lister.rt:38:9
 returns : tie.Need-returns
 returns c = no-room _ _ _ (long (c .before)) (c .if1 .taken)
 
--- src/lister.rt:43:5
 put-word-requires : tie.Need-put-word-requires
 put-word-requires c κs = search needs
 
--- src/lister.rt:44:5
 put-one-requires : tie.Need-put-one-requires
 put-one-requires c κs = omega (arith, c .before .before .before .put-word .kept .0, c .before .before .before .before .before .before .width .ensures .0, length-one (c .before .before .before .before .before .before .before .before .args .number), c .before .before .before .before .before .if1 .left)
 
--- src/lister.rt:33:1
 same-length : tie.Need-same-length
 same-length c = search needs
 
--- src/lister.rt:33:1
 returns-2 : tie.Need-returns-2
 returns-2 c = let a = c .before .before .before .before .before .before .before .before .before .before .before .args in
     let q = c .before .before .put-one in

@@ -7,31 +7,24 @@ use borrow.Author.Needs.{needs}
 use Rattle.listing.proofs.local.with_copies.Statement.{statement}
 use Rattle.listing.proofs.local.with_copies.Tie as tie
 
--- src/local.rt:83:57
 mul-copies : tie.Need-mul-copies
 mul-copies c = omega (arith, few-copies _ _ _ (c .before .before .before .before .pre .0))
 
--- src/local.rt:83:43
 array-borrow-prefix-copies : tie.Need-array-borrow-prefix-copies
 array-borrow-prefix-copies c = few-copies _ _ _ (c .before .before .before .before .pre .0)
 
--- src/local.rt:83:43
 slice-aggregate-with-masks : tie.Need-slice-aggregate-with-masks
 slice-aggregate-with-masks c = sym (length-take-le _ _ (few-copies _ _ _ (c .before .before .before .before .before .pre .0)))
 
--- src/local.rt:83:5
 with-masks-requires : tie.Need-with-masks-requires
 with-masks-requires c κs = let p = c .before .before .before .before .before .before .pre in (p .0, p .1, length-take-le _ _ (few-copies _ _ _ (p .0)))
 
--- src/local.rt:78:1
 same-length : tie.Need-same-length
 same-length c = search needs
 
--- src/local.rt:78:1
 same-length-2 : tie.Need-same-length-2
 same-length-2 c = search needs
 
--- src/local.rt:78:1
 returns : tie.Need-returns
 returns c = search needs
 

@@ -5,23 +5,18 @@ use borrow.Author.Needs.{needs}
 use Rattle.listing.proofs.local.with_main.Statement.{statement}
 use Rattle.listing.proofs.local.with_main.Tie as tie
 
--- src/local.rt:91:38
 array-borrow-prefix-main : tie.Need-array-borrow-prefix-main
 array-borrow-prefix-main c = search needs
 
--- src/local.rt:91:38
 slice-aggregate-with-copies : tie.Need-slice-aggregate-with-copies
 slice-aggregate-with-copies c = sym (length-take-le _ _ (c .before .before .before .pre .few-cells))
 
--- src/local.rt:91:5
 with-copies-requires : tie.Need-with-copies-requires
 with-copies-requires c κs = let p = c .before .before .before .before .pre in (p, length-take-le _ _ (p .few-cells))
 
--- src/local.rt:86:1
 same-length : tie.Need-same-length
 same-length c = search needs
 
--- src/local.rt:86:1
 returns : tie.Need-returns
 returns c = search needs
 

@@ -10,35 +10,27 @@ use Rattle.listing.proofs.local.with_masks.Tie as tie
 few : (c : tie.After-masks) → c .before .before .before .before .before .before .before .args .cells * 3 ≤ 1536
 few c = omega (arith, c .before .before .before .before .before .before .before .pre .0 .few-cells)
 
--- src/local.rt:75:66
 mul-masks : tie.Need-mul-masks
 mul-masks c = search needs
 
--- src/local.rt:75:53
 array-borrow-prefix-masks : tie.Need-array-borrow-prefix-masks
 array-borrow-prefix-masks c = search needs
 
--- src/local.rt:75:53
 slice-aggregate-with-numbers : tie.Need-slice-aggregate-with-numbers
 slice-aggregate-with-numbers c = sym (length-take-le _ _ (few c))
 
--- src/local.rt:75:5
 with-numbers-requires : tie.Need-with-numbers-requires
 with-numbers-requires c κs = let p = c .before .before .before .before .before .before .before .before .pre in (p .0, p .1, p .2, length-take-le _ _ (few (c .before)))
 
--- src/local.rt:63:1
 same-length : tie.Need-same-length
 same-length c = search needs
 
--- src/local.rt:63:1
 same-length-2 : tie.Need-same-length-2
 same-length-2 c = search needs
 
--- src/local.rt:63:1
 same-length-3 : tie.Need-same-length-3
 same-length-3 c = search needs
 
--- src/local.rt:63:1
 returns : tie.Need-returns
 returns c = search needs
 

@@ -5,35 +5,27 @@ use borrow.Author.Needs.{needs}
 use Rattle.listing.proofs.local.with_values.Statement.{statement}
 use Rattle.listing.proofs.local.with_values.Tie as tie
 
--- src/local.rt:44:59
 slice-aggregate-list-with : tie.Need-slice-aggregate-list-with
 slice-aggregate-list-with c = search needs
 
--- src/local.rt:44:5
 list-with-requires : tie.Need-list-with-requires
 list-with-requires c κs = let p = c .before .before .before .before .before .before .before .before .before .before .before .before .pre in (fitting _ _ _ (p .0) _ _ _ (p .1) (p .2) (p .3), p .4, omega arith)
 
--- src/local.rt:30:1
 same-length : tie.Need-same-length
 same-length c = search needs
 
--- src/local.rt:30:1
 same-length-2 : tie.Need-same-length-2
 same-length-2 c = search needs
 
--- src/local.rt:30:1
 same-length-3 : tie.Need-same-length-3
 same-length-3 c = search needs
 
--- src/local.rt:30:1
 same-length-4 : tie.Need-same-length-4
 same-length-4 c = search needs
 
--- src/local.rt:30:1
 same-length-5 : tie.Need-same-length-5
 same-length-5 c = search needs
 
--- src/local.rt:30:1
 returns : tie.Need-returns
 returns c = search needs
 
