@@ -13,7 +13,7 @@ use lib.Seq.{getD-drop}
 use Rattle.protocol.specs.declared.Action.{Action}
 use Rattle.protocol.specs.First.{firstNumber}
 use Rattle.protocol.specs.Slices.{Table, tableOf, width, every, inRange, sizesGood}
-use Rattle.protocol.proofs.Booleans.{clash, or-left, or-right}
+use Rattle.protocol.proofs.Booleans.{clash, or-right}
 use Rattle.protocol.proofs.InWords.{range-exactly}
 use Rattle.sessions.specs.File.{marked, versionIn, ruleIn, boardsIn, cellsIn, actionAt}
 use Rattle.sessions.specs.FileRefusals.{headRefusals, bodyRefusals, recordsBad, bodyBad, readRefusals, countIn, runRefusals}
@@ -69,24 +69,15 @@ module _ (file : List ℕ) (t : Table) (numbers values : ℕ) (fits : Sized file
 -- ---- what is lent
 
 module _ (file : List ℕ) (r : Sizes) (s : SizesIn file r) where
-  pub out-of-range : (ltb 16 (r .boards) || ltb 512 (r .cells)) ≡ true → Lent file 0 0
+  pub out-of-range : inRange (r .boards) (r .cells) ≡ false → Lent file 0 0
   out-of-range h = record {
     few-boards = omega arith;
     few-cells = omega arith;
-    right = λ l e.
-        let range = range-exactly (boardsIn file) (cellsIn file) .0 e in
-        let said = sizes-are file r s l in
-        let x : ltb 16 (r .boards) ≡ false = le-ltb 16 (r .boards) (omega (arith, said .0, range .0 .1)) in
-        let y : ltb 512 (r .cells) ≡ false = le-ltb 512 (r .cells) (omega (arith, said .1, range .1 .1)) in
-        absurd (clash h (rw (x, y)));
+    right = λ l e. let said = sizes-are file r s l in absurd (clash e (rw (said .0, said .1) at h));
   }
 
-  pub in-range : (ltb 16 (r .boards) || ltb 512 (r .cells)) ≡ false → Lent file (r .boards) (r .cells)
-  in-range h = record {
-    few-boards = ltb-false 16 (r .boards) (or-left (ltb 16 (r .boards)) (ltb 512 (r .cells)) h);
-    few-cells = ltb-false 512 (r .cells) (or-right (ltb 16 (r .boards)) (ltb 512 (r .cells)) h);
-    right = λ l e. sizes-are file r s l;
-  }
+  pub in-range : inRange (r .boards) (r .cells) ≡ true → Lent file (r .boards) (r .cells)
+  in-range h = let range = range-exactly (r .boards) (r .cells) .0 h in record { few-boards = range .0 .1; few-cells = range .1 .1; right = λ l e. sizes-are file r s l }
 
 module _ (file : List ℕ) (boards cells : ℕ) (l : Lent file boards cells) (m k w : List ℕ) (a : length m ≡ cells) (b : length k ≡ cells * boards) (c : length w ≡ cells * 3) where
   pub fitting : Sized file (tableOf m k w)

@@ -8,12 +8,12 @@ use crate::Listed;
 use crate::lister;
 use sessions::Sizes;
 
-// The sizes of the file; 0 where it is too short, or they are out of range.
+// The sizes of the file; 0 where they are out of range.
 pub fn lent_sizes(file: &[u8]) -> Sizes
     ensures { λ r. ⌜ Lent (now (file .entry)) (r .boards) (r .cells) ⌝ }
 {
     let sizes = sessions::sizes_in(file);
-    if (sizes.boards > 16) | (sizes.cells > 512) {
+    if !table::in_range(sizes.boards, sizes.cells) {
         return Sizes {
             boards: 0,
             cells: 0,

@@ -25,7 +25,7 @@ fn refusal(file: &[u8], lent: usize) -> u8
         return head;
     }
     let sizes = crate::sizes_in(file);
-    let sizes_bad = !refusals::in_range(sizes.boards, sizes.cells) | (lent != sizes.cells);
+    let sizes_bad = !table::in_range(sizes.boards, sizes.cells) | (lent != sizes.cells);
     refusals::body_refusal(sizes_bad, file[5], refusals::body_bad(file, sizes.cells))
 }
 

@@ -2,7 +2,7 @@
 ghost use mathlib.Core.Path.{_≡_};
 ghost use lib.ListN.{length};
 ghost use Rattle.protocol.specs.First.{firstNumber};
-ghost use Rattle.protocol.specs.Slices.{tableOf, sizesGood};
+ghost use Rattle.protocol.specs.Slices.{tableOf};
 ghost use Rattle.sessions.specs.File.{cellsIn};
 ghost use Rattle.sessions.specs.FileRefusals.{runRefusals};
 ghost use Rattle.sessions.specs.Code.{Finished};
@@ -11,16 +11,6 @@ use crate::bytes;
 use crate::records;
 use crate::refusals;
 use crate::stale;
-
-// P and N are in range, and the lent table's lengths are right.
-fn table_fits(boards: usize, cells: usize, main: &[u32], copies: &[u32], masks: &[u16]) -> bool
-    ensures { λ r. ⌜ r ≡ sizesGood boards cells (tableOf (now (main .entry)) (now (copies .entry)) (now (masks .entry))) ⌝ }
-{
-    if !refusals::in_range(boards, cells) {
-        return false;
-    }
-    (main.len() == cells) & ((copies.len() == cells * boards) & (masks.len() == cells * 3))
-}
 
 // The number that refuses a run, or 0.
 pub fn refusal(
@@ -38,7 +28,7 @@ pub fn refusal(
         return head;
     }
     let sizes = crate::sizes_in(file);
-    let fits = table_fits(sizes.boards, sizes.cells, main, copies, masks);
+    let fits = table::sizes_good(sizes.boards, sizes.cells, main, copies, masks);
     let body = refusals::body_refusal(!fits, file[5], refusals::body_bad(file, sizes.cells));
     if body != protocol::ACCEPTED {
         return body;

@@ -1,4 +1,6 @@
 -- `lent_sizes` answers sizes that the local memory has. Assumes nothing.
+use mathlib.Core.Path.{sym, _∙_}
+use borrow.Author.Tests.{not-true, not-false}
 use Rattle.listing.proofs.LentLaws.{out-of-range, in-range}
 use borrow.Author.Needs.{needs}
 use Rattle.listing.proofs.local.lent_sizes.Statement.{statement}
@@ -7,11 +9,14 @@ use Rattle.listing.proofs.local.lent_sizes.Tie as tie
 sizes-in-requires : tie.Need-sizes-in-requires
 sizes-in-requires c κs = search needs
 
+in-range-requires : tie.Need-in-range-requires
+in-range-requires c κs = search needs
+
 returns : tie.Need-returns
-returns c = out-of-range _ _ (c .before .before .before .sizes-in .ensures) (c .if1 .taken)
+returns c = out-of-range _ _ (c .before .before .sizes-in .ensures) (sym (c .before .in-range .ensures) ∙ not-true _ (c .if1 .taken))
 
 returns-2 : tie.Need-returns-2
-returns-2 c = in-range _ _ (c .before .before .before .sizes-in .ensures) (c .if1 .left)
+returns-2 c = in-range _ _ (c .before .before .sizes-in .ensures) (sym (c .before .in-range .ensures) ∙ not-false _ (c .if1 .left))
 
 pub lent-sizes-spec : {M : Type 1} → statement M
-lent-sizes-spec = tie.close (tie.spec sizes-in-requires returns returns-2)
+lent-sizes-spec = tie.close (tie.spec sizes-in-requires in-range-requires returns returns-2)

@@ -24,7 +24,7 @@ heads-pass : (c : tie.After-body-refusal) → firstNumber (headRefusals (c .befo
 heads-pass c = sym (c .before .before .before .before .before .before .head-refusal .ensures) ∙ c .before .before .before .before .before .if1 .left
 
 body-is : (c : tie.After-body-refusal) → let a = c .before .before .before .before .before .before .before .before .before .before .before .args in c .body-refusal .result ≡ firstNumber (sized (a .file .now) (tableOf (a .main .now) (a .copies .now) (a .masks .now)))
-body-is c = c .body-refusal .ensures ∙ sized-is _ _ _ _ _ _ (sizes (c .before .before .before .before)) (c .before .before .before .table-fits .ensures) (c .before .body-bad .ensures)
+body-is c = c .body-refusal .ensures ∙ sized-is _ _ _ _ _ _ (sizes (c .before .before .before .before)) (c .before .before .before .sizes-good .ensures) (c .before .body-bad .ensures)
 
 head-refusal-requires : tie.Need-head-refusal-requires
 head-refusal-requires c κs = search needs
@@ -35,8 +35,8 @@ returns c = c .before .head-refusal .ensures ∙ run-head _ _ _ _ (λ z. c .if1 
 sizes-in-requires : tie.Need-sizes-in-requires
 sizes-in-requires c κs = search needs
 
-table-fits-requires : tie.Need-table-fits-requires
-table-fits-requires c κs = search needs
+sizes-good-requires : tie.Need-sizes-good-requires
+sizes-good-requires c κs = search needs
 
 shared-slice-read-body-refusal : tie.Need-shared-slice-read-body-refusal
 shared-slice-read-body-refusal c = omega (arith, long (c .before .before .before))
@@ -72,7 +72,7 @@ refusal-spec =
     head-refusal-requires
     returns
     sizes-in-requires
-    table-fits-requires
+    sizes-good-requires
     shared-slice-read-body-refusal
     body-bad-requires
     body-refusal-requires
