@@ -2,27 +2,30 @@
 use mathlib.Core.Path.{_≡_, refl, ap, sym, _∙_}
 use mathlib.Core.Bool.{Bool, true, false, cond, not, _||_}
 use mathlib.Core.List.{List}
-use Prim.Native.Nat.{ℕ, _+_, _-_, _*_, _/_, _%_, _<_, _≤_}
+use Prim.Native.Nat.{ℕ, _+_, _-_, _*_, _<_, _≤_}
 use native.Mathlib.Omega.{arith}
 use native.Mathlib.Decide.{decLt}
 use native.Mathlib.Nat.{mul-le-mul-left}
-use borrow.Author.Tests.{lt-ltb, le-ltb, eq-eqb, ltb-false}
+use borrow.Author.Tests.{lt-ltb, le-ltb, eq-eqb}
 use lib.Dec.{eqb, ltb}
 use lib.ListN.{length, getD}
 use lib.Seq.{getD-drop}
 use Rattle.protocol.specs.declared.Action.{Action}
 use Rattle.protocol.specs.First.{firstNumber}
 use Rattle.protocol.specs.Slices.{Table, tableOf, width, every, inRange, sizesGood}
-use Rattle.protocol.proofs.Booleans.{clash, or-left, or-right}
+use Rattle.protocol.proofs.Booleans.{clash, or-right}
 use Rattle.protocol.proofs.InWords.{range-exactly}
 use Rattle.sessions.specs.File.{marked, versionIn, ruleIn, boardsIn, cellsIn, actionAt}
 use Rattle.sessions.specs.FileRefusals.{headRefusals, bodyRefusals, recordsBad, bodyBad, readRefusals, countIn, runRefusals}
-use Rattle.sessions.specs.Statements.{Runs}
+use Rattle.sessions.specs.Run.{lineOfRecord}
+use Rattle.sessions.specs.Statements.{SizesIn, Runs}
 use Rattle.sessions.specs.declared.Report.{Report}
-use Rattle.sessions.proofs.AcceptedLaws.{readable}
-use Rattle.sessions.proofs.RunPromises.{logged, lineAt, its-action, in-slice}
+use Rattle.sessions.specs.declared.Sizes.{Sizes}
+use Rattle.sessions.proofs.AcceptedLaws.{readable, few-records}
+use Rattle.sessions.proofs.BytesLaws.{sizes-are}
+use Rattle.sessions.proofs.RunPromises.{logged, its-action, in-slice}
 use Rattle.listing.specs.Listing.{refusalOf}
-use Rattle.listing.specs.Code.{lineOfRecord, RunTold, Lent, Sized}
+use Rattle.listing.specs.Code.{RunTold, Lent, Sized}
 
 -- ---- the refusals
 
@@ -37,15 +40,11 @@ same-order : (short mark version sizes ruled body room : Bool) → (body ≡ fal
 same-order short mark version sizes ruled true room h = refl
 same-order short mark version sizes ruled false room h = rw (h refl)
 
-few-records-in : (n : ℕ) → recordsBad n ≡ false → n / 9 ≤ 4096
-unfolding recordsBad
-few-records-in n e = ltb-false 4096 (n / 9) (or-right (not (eqb (n % 9) 0)) (ltb 4096 (n / 9)) e)
-
 few-in : (file : List ℕ) → bodyBad file ≡ false → countIn file ≤ 4096
 unfolding bodyBad
 few-in file e =
     let n = length file - (9 + 4 * cellsIn file) in
-    few-records-in n (or-right (ltb (length file) (9 + 4 * cellsIn file)) (recordsBad n) e)
+    few-records n (or-right (ltb (length file) (9 + 4 * cellsIn file)) (recordsBad n) e)
 
 module _ (file : List ℕ) (t : Table) (numbers values : ℕ) (fits : Sized file t) (a : 4096 ≤ numbers) (b : 4096 ≤ values) where
   enough : bodyBad file ≡ false → (ltb numbers (countIn file) || ltb values (countIn file)) ≡ false
@@ -65,24 +64,16 @@ module _ (file : List ℕ) (t : Table) (numbers values : ℕ) (fits : Sized file
 
 -- ---- what is lent
 
-module _ (file : List ℕ) (boards cells : ℕ) (p : boards ≡ boardsIn file) (n : cells ≡ cellsIn file) where
-  pub out-of-range : (ltb 16 boards || ltb 512 cells) ≡ true → Lent file 0 0
+module _ (file : List ℕ) (r : Sizes) (s : SizesIn file r) where
+  pub out-of-range : inRange (r .boards) (r .cells) ≡ false → Lent file 0 0
   out-of-range h = record {
     few-boards = omega arith;
     few-cells = omega arith;
-    right = λ l e.
-        let r = range-exactly (boardsIn file) (cellsIn file) .0 e in
-        let x : ltb 16 boards ≡ false = le-ltb 16 boards (omega (arith, r .0 .1)) in
-        let y : ltb 512 cells ≡ false = le-ltb 512 cells (omega (arith, r .1 .1)) in
-        absurd (clash h (rw (x, y)));
+    right = λ l e. let said = sizes-are file r s l in absurd (clash e (rw (said .0, said .1) at h));
   }
 
-  pub in-range : (ltb 16 boards || ltb 512 cells) ≡ false → Lent file boards cells
-  in-range h = record {
-    few-boards = ltb-false 16 boards (or-left (ltb 16 boards) (ltb 512 cells) h);
-    few-cells = ltb-false 512 cells (or-right (ltb 16 boards) (ltb 512 cells) h);
-    right = λ l e. (p, n);
-  }
+  pub in-range : inRange (r .boards) (r .cells) ≡ true → Lent file (r .boards) (r .cells)
+  in-range h = let range = range-exactly (r .boards) (r .cells) .0 h in record { few-boards = range .0 .1; few-cells = range .1 .1; right = λ l e. sizes-are file r s l }
 
 module _ (file : List ℕ) (boards cells : ℕ) (l : Lent file boards cells) (m k w : List ℕ) (a : length m ≡ cells) (b : length k ≡ cells * boards) (c : length w ≡ cells * 3) where
   pub fitting : Sized file (tableOf m k w)
@@ -106,21 +97,19 @@ few-copies file boards cells l = omega (arith, mul-le-mul-left cells (l .few-boa
 module _ (file m k w numbers values : List ℕ) (r : Report) (m′ k′ w′ numbers′ values′ : List ℕ) (s : Runs file m k w numbers values r m′ k′ w′ numbers′ values′) (ok : r .number ≡ 0)
     (e : refusalOf file ≡ 0) (a : 4096 ≤ length numbers′) (b : 4096 ≤ length values′) where
   code-of : (i : ℕ) → i < countIn file → getD file (9 + 4 * cellsIn file + 9 * i) 0 ≡ lineOfRecord file i .action .code
-  unfolding actionAt lineAt lineOfRecord
+  unfolding actionAt
   code-of i h = sym (getD-drop (9 + 4 * cellsIn file) file (9 * i) 0) ∙ sym (ap (λ (x : Action). x .code) (its-action file i h))
 
   number-of : (i : ℕ) → i < countIn file → getD numbers′ i 0 ≡ lineOfRecord file i .told .number
-  unfolding lineAt lineOfRecord
   number-of i h = in-slice file m k w numbers values r m′ k′ w′ numbers′ values′ s ok (λ l. l .told .number) numbers numbers′ (s .numbers-are) i h
 
   value-of : (i : ℕ) → i < countIn file → getD values′ i 0 ≡ lineOfRecord file i .told .value
-  unfolding lineAt lineOfRecord
   value-of i h = in-slice file m k w numbers values r m′ k′ w′ numbers′ values′ s ok (λ l. l .told .value) values values′ (s .values-are) i h
 
   pub run-told : RunTold file numbers′ values′ (r .accepted) (r .stale)
   run-told =
       let y = readable file (cellsIn file) .0 e in
-      let few : countIn file ≤ 4096 = few-records-in (length file - (9 + 4 * cellsIn file)) (y .recorded) in
+      let few : countIn file ≤ 4096 = few-records (length file - (9 + 4 * cellsIn file)) (y .recorded) in
       record {
         headed = y .headed-whole;
         accepted-is = s .accepted-is ∙ rw (eq-eqb (r .number) 0 ok);

@@ -2,7 +2,7 @@
 use mathlib.Core.Path.{_≡_, refl, ap, sym, _∙_}
 use mathlib.Core.Logic.{_≢_}
 use mathlib.Core.List.{List, [], _∷_, _++_, append-assoc, append-nil}
-use Prim.Native.Nat.{ℕ, suc, _+_, _*_, _<_, _≤_}
+use Prim.Native.Nat.{ℕ, suc, _+_, _-_, _*_, _/_, _<_, _≤_}
 use native.Mathlib.Omega.{arith}
 use native.Mathlib.Numerals.{add-one}
 use borrow.Author.Tests.{lt-ltb, le-ltb, eq-eqb, ne-eqb}
@@ -12,10 +12,10 @@ use Rattle.protocol.specs.Runs.{Line}
 use Rattle.sessions.specs.Written.{written}
 use Rattle.sessions.specs.File.{ruleIn, boardsIn, cellsIn}
 use Rattle.sessions.specs.FileRefusals.{countIn}
-use Rattle.sessions.specs.Run.{logOf, acceptedIn, staleOf}
+use Rattle.sessions.specs.Run.{logOf, noLine, lineOfRecord, acceptedIn, staleOf}
 use Rattle.sessions.proofs.WrittenLaws.{written-more, in-front}
 use Rattle.listing.specs.Listing.{line, recordLine, recordLines, refusedWord, refusedListing, runListing, refusalOf, listingOf}
-use Rattle.listing.specs.Code.{noLine, lineOfRecord, Told, Puts}
+use Rattle.listing.specs.Code.{Told, Puts}
 use Rattle.listing.specs.declared.Listed.{Listed}
 use Rattle.listing.specs.Statements.{Lists}
 
@@ -132,15 +132,19 @@ module _ (file : List ℕ) where
       ∙ written-more (firstLine ++ ls) lastLine 0 old (omega (arith, length-run, length-append firstLine ls))
       ∙ ap (λ (l : List ℕ). written l 0 old) (append-assoc firstLine ls lastLine)
 
-  module _ (cells count accepted stale : ℕ) (c : cells ≡ cellsIn file) (n : count ≡ countIn file) (a : accepted ≡ acceptedIn (logOf file)) (z : stale ≡ staleOf file) where
-    pub long-run : (x y w : ℕ) → x ≡ length (line (ruleIn file) (boardsIn file ∷ cells ∷ [])) → y ≡ length (recordLines 0 (logOf file)) → w ≡ length (line count (accepted ∷ stale ∷ [])) →
+  module _ (boards cells accepted stale : ℕ) (s : (boards ≡ boardsIn file) × (cells ≡ cellsIn file)) (a : accepted ≡ acceptedIn (logOf file)) (z : stale ≡ staleOf file) where
+    -- the records, as the code counts them
+    abbrev count : ℕ
+    count = (length file - (9 + 4 * cells)) / 9
+
+    pub long-run : (x y w : ℕ) → x ≡ length (line (ruleIn file) (boards ∷ cells ∷ [])) → y ≡ length (recordLines 0 (logOf file)) → w ≡ length (line count (accepted ∷ stale ∷ [])) →
         x + y + w ≡ length (runListing file)
-    long-run x y w p q r = rw (p, q, r, c, n, a, z) (sym length-run)
+    long-run x y w p q r = rw (p, q, r, s .0, s .1, a, z) (sym length-run)
 
     pub put-run : (first last : ℕ) (old out₁ out₂ out₃ : List ℕ) → length (runListing file) ≤ length old →
-        first ≡ 0 + length (line (ruleIn file) (boardsIn file ∷ cells ∷ [])) → out₁ ≡ written (line (ruleIn file) (boardsIn file ∷ cells ∷ [])) 0 old →
+        first ≡ 0 + length (line (ruleIn file) (boards ∷ cells ∷ [])) → out₁ ≡ written (line (ruleIn file) (boards ∷ cells ∷ [])) 0 old →
         last ≡ first + length (recordLines 0 (logOf file)) → out₂ ≡ written (recordLines 0 (logOf file)) first out₁ →
         out₃ ≡ written (line count (accepted ∷ stale ∷ [])) last out₂ → out₃ ≡ written (runListing file) 0 old
     put-run first last old out₁ out₂ out₃ h f p l q r =
-        let f′ : first ≡ length firstLine = f ∙ rw c (omega arith) in
-        r ∙ rw (q, p, c, n, a, z) (written-run first last old f′ l h)
+        let f′ : first ≡ length firstLine = f ∙ rw (s .0, s .1) (omega arith) in
+        r ∙ rw (q, p, s .0, s .1, a, z) (written-run first last old f′ l h)

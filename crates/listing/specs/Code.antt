@@ -1,25 +1,16 @@
 -- What the private functions ask and answer. Assumes nothing.
 use mathlib.Core.Path.{_≡_}
 use mathlib.Core.Bool.{true, cond}
-use mathlib.Core.List.{List, [], _++_}
+use mathlib.Core.List.{List, _++_}
 use Prim.Native.Nat.{ℕ, _+_, _*_, _<_, _≤_}
 use lib.Dec.{ltb}
 use lib.ListN.{length, getD, drop}
 use Rattle.protocol.specs.Slices.{Table, inRange, sizesGood}
-use Rattle.protocol.specs.Runs.{Line}
-use Rattle.sessions.specs.File.{actionAt, boardsIn, cellsIn}
+use Rattle.sessions.specs.File.{boardsIn, cellsIn}
 use Rattle.sessions.specs.FileRefusals.{countIn}
-use Rattle.sessions.specs.Run.{logOf, acceptedIn, staleOf}
+use Rattle.sessions.specs.Run.{logOf, lineOfRecord, acceptedIn, staleOf}
 use Rattle.sessions.specs.Statements.{accepting}
 use Rattle.listing.specs.declared.Listed.{Listed}
-
--- what stands where a log has no line
-abbrev pub noLine : Line
-noLine = record { action = actionAt [] 0; told = record { number = 0; value = 0 } }
-
--- the line of the i-th record
-unfoldable pub lineOfRecord : (file : List ℕ) → (i : ℕ) → Line
-lineOfRecord file i = getD (logOf file) i noLine
 
 -- two slices tell the answers of a file's records; the records begin at `from`, and there are `count` of them
 pub record Told (file : List ℕ) (from count : ℕ) (numbers values : List ℕ) : Type 0 where

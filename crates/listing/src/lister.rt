@@ -61,11 +61,10 @@ fn told(
     ensures { λ r. ⌜ Puts (runListing (now (file .entry))) (now (out .entry)) r (now (out .exit)) ⌝ }
 {
     let rule = file[5] as usize;
-    let boards = file[6] as usize;
-    let cells = file[7] as usize + file[8] as usize * 256;
-    let from = 9 + 4 * cells;
+    let sizes = sessions::sizes_in(file);
+    let from = 9 + 4 * sizes.cells;
     let count = (file.len() - from) / 9;
-    let length = line::width_three(rule, boards, cells)
+    let length = line::width_three(rule, sizes.boards, sizes.cells)
         + records::records_width(file, from, count, numbers, values)
         + line::width_three(count, accepted, stale);
     if out.len() < length {
@@ -74,7 +73,7 @@ fn told(
             length: 0,
         };
     }
-    let first = line::put_three(out, 0, rule, boards, cells);
+    let first = line::put_three(out, 0, rule, sizes.boards, sizes.cells);
     let last = records::put_records(file, from, count, numbers, values, out, first);
     line::put_three(out, last, count, accepted, stale);
     Listed {

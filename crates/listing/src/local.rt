@@ -6,31 +6,20 @@ ghost use Rattle.listing.specs.Statements.{Lists};
 ghost use Rattle.listing.specs.Code.{Lent};
 use crate::Listed;
 use crate::lister;
+use sessions::Sizes;
 
-pub struct Sizes {
-    pub boards: usize,
-    pub cells: usize,
-}
-
-// The sizes of the file; 0 where it is too short, or they are out of range.
+// The sizes of the file; 0 where they are out of range.
 pub fn lent_sizes(file: &[u8]) -> Sizes
     ensures { λ r. ⌜ Lent (now (file .entry)) (r .boards) (r .cells) ⌝ }
 {
-    if file.len() < 9 {
+    let sizes = sessions::sizes_in(file);
+    if !table::in_range(sizes.boards, sizes.cells) {
         return Sizes {
             boards: 0,
             cells: 0,
         };
     }
-    let boards = file[6] as usize;
-    let cells = file[7] as usize + file[8] as usize * 256;
-    if (boards > 16) | (cells > 512) {
-        return Sizes {
-            boards: 0,
-            cells: 0,
-        };
-    }
-    Sizes { boards, cells }
+    sizes
 }
 
 fn with_values(

@@ -62,9 +62,9 @@ good-sizes boards cells starting = (
   λ g. rw (range-exactly boards cells .1 ((g .some-boards, g .few-boards), (g .some-cells, g .few-cells)), eq-eqb _ _ (g .matching)),
 )
 
-pub few-records : (n : ℕ) → recordsBad n ≡ false → n ≤ 36872
+pub few-records : (n : ℕ) → recordsBad n ≡ false → n / 9 ≤ 4096
 unfolding recordsBad
-few-records n e = let q : n / 9 ≤ 4096 = ltb-false _ _ (or-right (not (eqb (n % 9) 0)) (ltb 4096 (n / 9)) e) in omega arith
+few-records n e = ltb-false _ _ (or-right (not (eqb (n % 9) 0)) (ltb 4096 (n / 9)) e)
 
 -- ---- the writer
 

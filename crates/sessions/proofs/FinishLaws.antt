@@ -3,7 +3,7 @@ use mathlib.Core.Path.{_≡_, refl, sym, ap, _∙_, fun-ext}
 use mathlib.Core.Logic.{_≢_}
 use mathlib.Core.Bool.{true}
 use mathlib.Core.List.{List}
-use Prim.Native.Nat.{ℕ, _+_, _-_, _*_, _/_, _≤_}
+use Prim.Native.Nat.{ℕ, _+_, _-_, _*_, _/_}
 use native.Mathlib.Omega.{arith}
 use lib.ListN.{length, getD, length-drop}
 use borrow.Author.Tests.{eq-eqb, ne-eqb}
@@ -23,45 +23,39 @@ use Rattle.sessions.specs.declared.Report.{Report}
 use Rattle.sessions.specs.Statements.{Runs}
 use Rattle.sessions.specs.Code.{Prepared, Counted, Ran, Finished}
 use Rattle.sessions.proofs.AcceptedLaws.{Runnable, few-records}
-use Rattle.sessions.proofs.BytesLaws.{length-values}
+use Rattle.sessions.proofs.BytesLaws.{length-starting}
 use Rattle.sessions.proofs.RunLaws.{length-actions}
 
 module _ (file m k w numbers values : List ℕ) (ok : Runnable file (tableOf m k w) (length numbers) (length values)) where
   few-in : length (recordsIn file) / 9 ≡ countIn file
   few-in = rw (length-drop (9 + 4 * cellsIn file) file)
 
-  few-records-in : countIn file ≤ 4096
-  few-records-in = omega (arith, few-records (length file - (9 + 4 * cellsIn file)) (ok .readable-too .recorded))
-
-  starts : length (startingIn file) ≡ cellsIn file
-  starts = length-values file 9 (cellsIn file)
-
   pub prepared : (n : ℕ) (records latest : List ℕ) → n ≡ cellsIn file → records ≡ recordsIn file → length latest ≡ n → Prepared n records numbers values latest
   prepared n records latest e d h = record {
-    few = rw (d, few-in) few-records-in;
+    few = rw (d, few-in) (few-records (length file - (9 + 4 * cellsIn file)) (ok .readable-too .recorded));
     room-numbers = rw (d, few-in) (ok .roomy-numbers);
     room-values = rw (d, few-in) (ok .roomy-values);
     room-latest = omega arith;
   }
 
-  module _ (n : ℕ) (is-n : n ≡ cellsIn file) (latest₁ : List ℕ) (is-latest : latest₁ ≡ startingIn file) (fresh : Answer) (m₁ k₁ w₁ : List ℕ)
-      (made : Freshens (boardsIn file) n m k w latest₁ fresh m₁ k₁ w₁) where
+  module _ (p n : ℕ) (is-p : p ≡ boardsIn file) (is-n : n ≡ cellsIn file) (latest₁ : List ℕ) (is-latest : latest₁ ≡ startingIn file) (fresh : Answer) (m₁ k₁ w₁ : List ℕ)
+      (made : Freshens p n m k w latest₁ fresh m₁ k₁ w₁) where
     abbrev start : Table
     start = freshTable (boardsIn file) (startingIn file)
 
     made′ : Freshens (boardsIn file) (cellsIn file) m k w (startingIn file) fresh m₁ k₁ w₁
-    made′ = rw (is-n, is-latest) at made
+    made′ = rw (is-p, is-n, is-latest) at made
 
     fresh-0 : fresh .number ≡ 0
-    fresh-0 = made′ .number ∙ fresh-accepted (boardsIn file) (cellsIn file) (startingIn file) (tableOf m k w) .1 (ok .sized, starts)
+    fresh-0 = made′ .number ∙ fresh-accepted (boardsIn file) (cellsIn file) (startingIn file) (tableOf m k w) .1 (ok .sized, length-starting file)
 
     is-start : tableOf m₁ k₁ w₁ ≡ start
     is-start = fresh-gives (boardsIn file) (cellsIn file) m k w (startingIn file) fresh m₁ k₁ w₁ made′ fresh-0
 
     module _ (records : List ℕ) (is-records : records ≡ recordsIn file) (accepted : ℕ) (m₂ k₂ w₂ numbers₂ values₂ latest₂ : List ℕ)
-        (ran : Ran (ruleIn file) (boardsIn file) n m₁ k₁ w₁ numbers values latest₁ (actionsIn records) accepted m₂ k₂ w₂ numbers₂ values₂ latest₂) where
+        (ran : Ran (ruleIn file) p n m₁ k₁ w₁ numbers values latest₁ (actionsIn records) accepted m₂ k₂ w₂ numbers₂ values₂ latest₂) where
       ran′ : Ran (ruleIn file) (boardsIn file) (cellsIn file) m₁ k₁ w₁ numbers values (startingIn file) (actionsOf file) accepted m₂ k₂ w₂ numbers₂ values₂ latest₂
-      ran′ = rw (is-n, is-latest, is-records) at ran
+      ran′ = rw (is-p, is-n, is-latest, is-records) at ran
 
       ends : Holds (endOf file) m₂ k₂ w₂
       unfolding endOf
@@ -72,32 +66,32 @@ module _ (file m k w numbers values : List ℕ) (ok : Runnable file (tableOf m k
 
       end-good : sizesGood (boardsIn file) (cellsIn file) (endOf file) ≡ true
       unfolding endOf
-      end-good = let g = ok .readable-too .sizes in end-sizes (ruleIn file) (boardsIn file) (cellsIn file) start (actionsOf file) ∙ rw starts at (fresh-sizes (boardsIn file) (startingIn file) ((g .some-boards, g .few-boards), (rw starts (g .some-cells), rw starts (g .few-cells))))
+      end-good = let g = ok .readable-too .sizes in end-sizes (ruleIn file) (boardsIn file) (cellsIn file) start (actionsOf file) ∙ rw (length-starting file) at (fresh-sizes (boardsIn file) (startingIn file) ((g .some-boards, g .few-boards), (rw (length-starting file) (g .some-cells), rw (length-starting file) (g .few-cells))))
 
       counted : length (actionsOf file) ≡ countIn file
       counted = length-actions (recordsIn file) 0 (length (recordsIn file) / 9) ∙ few-in
 
-      pub countable : Counted (boardsIn file) n k₂ w₂ latest₂
+      pub countable : Counted p n k₂ w₂ latest₂
       unfolding width
       countable =
           let lengths = sizes-exactly (boardsIn file) (cellsIn file) (endOf file) .0 end-good .1 in
           record {
-            few-boards = ok .readable-too .sizes .few-boards;
+            few-boards = rw is-p (ok .readable-too .sizes .few-boards);
             few-cells = rw is-n (ok .readable-too .sizes .few-cells);
-            copied = rw (is-n, ends .holds-copies) (lengths copies);
+            copied = rw (is-p, is-n, ends .holds-copies) (lengths copies);
             masked = rw (is-n, ends .holds-masks) (lengths masks);
-            known = rw (ran .same-length, is-n, is-latest, starts) (omega arith);
+            known = rw (ran .same-length, is-n, is-latest, length-starting file) (omega arith);
           }
 
       pub finished : (stale : ℕ) →
-          ((main : List ℕ) → sizesGood (boardsIn file) n (tableOf main k₂ w₂) ≡ true → stale ≡ staleIn (boardsIn file) n (tableOf main k₂ w₂) (λ c. getD latest₂ c 0)) →
+          ((main : List ℕ) → sizesGood p n (tableOf main k₂ w₂) ≡ true → stale ≡ staleIn p n (tableOf main k₂ w₂) (λ c. getD latest₂ c 0)) →
           Finished file numbers values (record { number = fresh .number; accepted = accepted; stale = stale }) m₂ k₂ w₂ numbers₂ values₂
       unfolding logOf staleOf
       finished stale s = record {
         number-is = fresh-0;
         accepted-is = rw is-start at (ran′ .accepted);
         stale-is =
-            rw is-n at (s m₂ (rw (is-n, is-end) end-good))
+            rw (is-p, is-n) at (s m₂ (rw (is-p, is-n, is-end) end-good))
             ∙ rw is-end (ap (staleIn (boardsIn file) (cellsIn file) (endOf file)) (fun-ext (λ c. rw is-start at (ran′ .latest-are c))));
         table-is = ends;
         numbers-are = rw (is-start, counted) at (ran′ .numbers-are);

@@ -18,8 +18,8 @@ module _ (file old : List ℕ) (number : ℕ) (e : number ≡ firstNumber (readR
       let no = ne-eqb number 0 z in
       record { number-is = e; rule-is = rw no; boards-is = rw no; cells-is = rw no; part = rw no (drop-length file); filled = rw no }
 
-  pub reads-accepted : number ≡ 0 → (n : ℕ) → n ≡ cellsIn file → (starting : List ℕ) → starting ≡ values file 9 (length old)
-      → Reads file old (drop (9 + 4 * n) file) number (ruleIn file) (boardsIn file) n starting
-  reads-accepted z n c starting f =
+  pub reads-accepted : number ≡ 0 → (p n : ℕ) → (p ≡ boardsIn file) × (n ≡ cellsIn file) → (starting : List ℕ) → starting ≡ values file 9 (length old)
+      → Reads file old (drop (9 + 4 * n) file) number (ruleIn file) p n starting
+  reads-accepted z p n s starting f =
       let yes = eq-eqb number 0 z in
-      record { number-is = e; rule-is = rw yes; boards-is = rw yes; cells-is = rw yes c; part = rw (yes, c); filled = rw yes (f ∙ ap (values file 9) (readable file (length old) .0 (sym e ∙ z) .sizes .matching)) }
+      record { number-is = e; rule-is = rw yes; boards-is = rw yes (s .0); cells-is = rw yes (s .1); part = rw (yes, s .1); filled = rw yes (f ∙ ap (values file 9) (readable file (length old) .0 (sym e ∙ z) .sizes .matching)) }

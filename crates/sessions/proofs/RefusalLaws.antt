@@ -54,10 +54,10 @@ module _ (file : List ℕ) where
   head-answers lent h = sym (refused-before (headRefusals file) (bodyRefusals (not (inRange (boardsIn file) (cellsIn file)) || not (eqb lent (cellsIn file))) (ruleIn file) (bodyBad file)) h)
 
   -- past the first nine bytes the rest of the list answers
-  pub body-answers : (lent n : ℕ) (range body : Bool) → firstNumber (headRefusals file) ≡ 0 → n ≡ cellsIn file → range ≡ inRange (boardsIn file) n → body ≡ bodyBad file
+  pub body-answers : (lent p n : ℕ) (range body : Bool) → firstNumber (headRefusals file) ≡ 0 → (p ≡ boardsIn file) × (n ≡ cellsIn file) → range ≡ inRange p n → body ≡ bodyBad file
       → firstNumber (bodyRefusals (not range || not (eqb lent n)) (ruleIn file) body) ≡ firstNumber (readRefusals file lent)
   unfolding readRefusals
-  body-answers lent n range body e c r b = rw (r, b, c) (sym (passed (headRefusals file) (bodyRefusals (not (inRange (boardsIn file) (cellsIn file)) || not (eqb lent (cellsIn file))) (ruleIn file) (bodyBad file)) heads e))
+  body-answers lent p n range body e s r b = rw (r, b, s .0, s .1) (sym (passed (headRefusals file) (bodyRefusals (not (inRange (boardsIn file) (cellsIn file)) || not (eqb lent (cellsIn file))) (ruleIn file) (bodyBad file)) heads e))
 
   -- ---- the run
 
@@ -65,8 +65,8 @@ module _ (file : List ℕ) where
     abbrev pub sized : List Refusal
     sized = bodyRefusals (not (sizesGood (boardsIn file) (cellsIn file) t)) (ruleIn file) (bodyBad file)
 
-    pub sized-is : (n : ℕ) (fits body : Bool) → n ≡ cellsIn file → fits ≡ sizesGood (boardsIn file) n t → body ≡ bodyBad file → firstNumber (bodyRefusals (not fits) (ruleIn file) body) ≡ firstNumber sized
-    sized-is n fits body c f b = rw (f, b, c)
+    pub sized-is : (p n : ℕ) (fits body : Bool) → (p ≡ boardsIn file) × (n ≡ cellsIn file) → fits ≡ sizesGood p n t → body ≡ bodyBad file → firstNumber (bodyRefusals (not fits) (ruleIn file) body) ≡ firstNumber sized
+    sized-is p n fits body s f b = rw (f, b, s .0, s .1)
 
     pub run-long : firstNumber sized ≡ 0 → 9 + 4 * cellsIn file ≤ length file
     unfolding bodyRefusals bodyBad
@@ -98,7 +98,7 @@ module _ (rule boards cells starting records : ℕ) (range bad : Bool) (r : rang
   tested = bodyRefusals (not range || not (eqb starting cells)) rule bad
 
   -- no sum of the lengths wraps
-  pub write-small : firstNumber tested ≡ 0 → (cells ≤ 512) × (records ≤ 36872)
+  pub write-small : firstNumber tested ≡ 0 → (cells ≤ 512) × (records / 9 ≤ 4096)
   unfolding bodyRefusals
   write-small e =
       let f = none-refuses tested (bodies (not range || not (eqb starting cells)) rule bad) .0 e in

@@ -12,7 +12,7 @@ use Rattle.sessions.specs.File.{Below, ruleIn, boardsIn, cellsIn, starti
 use Rattle.sessions.specs.FileRefusals.{readRefusals, writeRefusals}
 use Rattle.sessions.specs.Statements.{accepting, Reads, Writes, ReadAs}
 use Rattle.sessions.proofs.AcceptedLaws.{writable, readable}
-use Rattle.sessions.proofs.BytesLaws.{length-values}
+use Rattle.sessions.proofs.BytesLaws.{length-starting}
 use Rattle.sessions.proofs.WrittenLaws.{length-file}
 use Rattle.sessions.proofs.TripLaws.{mark-of, version-of, rule-of, boards-of, cells-of, starting-of, records-of, head-of, body-of}
 
@@ -30,7 +30,7 @@ pub read-is-writable : (file : List ℕ) (room : ℕ) → firstNumber (readRefus
     firstNumber (writeRefusals (ruleIn file) (boardsIn file) (cellsIn file) (length (startingIn file)) (length (recordsIn file)) room) ≡ 0
 read-is-writable file room e h =
     let r = readable file (cellsIn file) .0 e in
-    let v : length (startingIn file) ≡ cellsIn file = length-values file 9 (cellsIn file) in
+    let v : length (startingIn file) ≡ cellsIn file = length-starting file in
     let d : length (recordsIn file) ≡ length file - (9 + 4 * cellsIn file) = length-drop (9 + 4 * cellsIn file) file in
     rw (v, d) (writable (ruleIn file) (boardsIn file) (cellsIn file) (cellsIn file) (length file - (9 + 4 * cellsIn file)) room .1
     (record { sizes = r .sizes; ruled = r .ruled; recorded = r .recorded; roomy = omega (arith, r .valued) }))

@@ -20,11 +20,11 @@ use Rattle.protocol.proofs.Demand3Reads.{reads-latest}
 use Rattle.protocol.proofs.FreshStaysSound.{never-7, live-is-latest}
 use Rattle.sessions.specs.File.{ruleIn, boardsIn, cellsIn, startingIn, recordsIn, actionAt, actions}
 use Rattle.sessions.specs.FileRefusals.{countIn}
-use Rattle.sessions.specs.Run.{actionsOf, logOf, endOf, countBelow, sumBelow, staleIn, staleOf}
+use Rattle.sessions.specs.Run.{actionsOf, logOf, endOf, noLine, lineOfRecord, countBelow, sumBelow, staleIn, staleOf}
 use Rattle.sessions.specs.declared.Report.{Report}
 use Rattle.sessions.specs.Statements.{accepting, Runs}
 use Rattle.sessions.proofs.AcceptedLaws.{runnable}
-use Rattle.sessions.proofs.BytesLaws.{length-values}
+use Rattle.sessions.proofs.BytesLaws.{length-starting}
 use Rattle.sessions.proofs.RunLaws.{length-actions, length-log}
 
 -- ---- counts of nothing
@@ -40,10 +40,6 @@ none-summed zero count h = refl
 none-summed (suc n) count h = rw (h n, none-summed n count h)
 
 -- ---- lines of a log
-
--- what stands where a log has no line
-abbrev pub noLine : Line
-noLine = record { action = actionAt [] 0; told = record { number = 0; value = 0 } }
 
 -- no line tells 7 where no earlier table does
 none-told-7 : (rule boards cells : ℕ) (t : Table) (l : List Action) → ((earlier : List Action) (a : Action) → answer rule boards cells (tableAfterAll rule boards cells t earlier) a .number ≢ 7) →
@@ -70,14 +66,11 @@ getD-front f (l ∷ ls) rest (suc i) h = getD-front f ls rest i (omega arith)
 -- ---- of a file's log
 
 module _ (file : List ℕ) where
-  starts : length (startingIn file) ≡ cellsIn file
-  starts = length-values file 9 (cellsIn file)
-
   -- demand 3, of the same step and the same list of actions as the run
   pub session-reads-latest : CoherentRule (ruleIn file) → (before rest : List Line) (l : Line) → logOf file ≡ before ++ (l ∷ rest) → acceptedRead l ≡ true →
       l .told .value ≡ latestWrite (l .action .cell) (getD (startingIn file) (l .action .cell) 0) before
   unfolding logOf
-  session-reads-latest co = rw starts at (reads-latest (ruleIn file) (boardsIn file) (startingIn file) co (actionsOf file))
+  session-reads-latest co = rw (length-starting file) at (reads-latest (ruleIn file) (boardsIn file) (startingIn file) co (actionsOf file))
 
   -- under rules 2 to 4 no copy is stale
   session-not-stale : 2 ≤ ruleIn file → ruleIn file ≤ 4 → staleOf file ≡ 0
@@ -91,7 +84,7 @@ module _ (file : List ℕ) where
       latest c = latestWrite c (getD (startingIn file) c 0) (logOf file)
 
       fresh-copy : (c p : ℕ) → p < boardsIn file → (b : Bool) → hasBoard (liveMask (x c)) p ≡ b → (b && not (eqb (copyAt (x c) p) (latest c))) ≡ false
-      fresh-copy c p m true e = rw (eq-eqb (copyAt (x c) p) (latest c) (rw starts at (live-is-latest (ruleIn file) (boardsIn file) (startingIn file) (actionsOf file) l h c p m) e))
+      fresh-copy c p m true e = rw (eq-eqb (copyAt (x c) p) (latest c) (rw (length-starting file) at (live-is-latest (ruleIn file) (boardsIn file) (startingIn file) (actionsOf file) l h c p m) e))
       fresh-copy c p m false e = refl
 
   pub logged : length (logOf file) ≡ countIn file
@@ -101,32 +94,28 @@ module _ (file : List ℕ) where
       ∙ length-actions (recordsIn file) 0 (length (recordsIn file) / 9)
       ∙ rw (length-drop (9 + 4 * cellsIn file) file)
 
-  -- the line of the i-th record
-  unfoldable pub lineAt : (i : ℕ) → Line
-  lineAt i = getD (logOf file) i noLine
-
-  session-never-7 : (i : ℕ) → lineAt i .told .number ≢ 7
-  unfolding lineAt logOf
+  session-never-7 : (i : ℕ) → lineOfRecord file i .told .number ≢ 7
+  unfolding lineOfRecord logOf
   session-never-7 =
       none-told-7 (ruleIn file) (boardsIn file) (cellsIn file) (freshTable (boardsIn file) (startingIn file)) (actionsOf file)
-      (λ earlier. rw starts at (never-7 (ruleIn file) (boardsIn file) (startingIn file) earlier))
+      (λ earlier. rw (length-starting file) at (never-7 (ruleIn file) (boardsIn file) (startingIn file) earlier))
 
-  pub its-action : (i : ℕ) → i < countIn file → lineAt i .action ≡ actionAt (recordsIn file) (9 * i)
-  unfolding lineAt logOf
+  pub its-action : (i : ℕ) → i < countIn file → lineOfRecord file i .action ≡ actionAt (recordsIn file) (9 * i)
+  unfolding lineOfRecord logOf
   its-action i h =
       let e : 0 + 9 * i ≡ 9 * i = omega arith in
       let l : length (recordsIn file) / 9 ≡ countIn file = rw (length-drop (9 + 4 * cellsIn file) file) in
       rw e at (action-logged (ruleIn file) (boardsIn file) (cellsIn file) (freshTable (boardsIn file) (startingIn file)) (recordsIn file) 0 (length (recordsIn file) / 9) i (rw l h))
 
-  cut-at : (i : ℕ) → i < countIn file → logOf file ≡ take i (logOf file) ++ (lineAt i ∷ drop (suc i) (logOf file))
-  unfolding lineAt
+  cut-at : (i : ℕ) → i < countIn file → logOf file ≡ take i (logOf file) ++ (lineOfRecord file i ∷ drop (suc i) (logOf file))
+  unfolding lineOfRecord
   cut-at i h = sym (take-append-drop i (logOf file)) ∙ ap (λ (ls : List Line). take i (logOf file) ++ ls) (drop-cons (logOf file) i noLine (rw logged h))
 
 -- ---- of a run that is not refused
 
 module _ (file m k w numbers values : List ℕ) (r : Report) (m′ k′ w′ numbers′ values′ : List ℕ) (s : Runs file m k w numbers values r m′ k′ w′ numbers′ values′) (ok : r .number ≡ 0) where
-  pub in-slice : (f : Line → ℕ) (old new : List ℕ) → new ≡ accepting (r .number) (map f (logOf file) ++ drop (countIn file) old) old → (i : ℕ) → i < countIn file → getD new i 0 ≡ f (lineAt file i)
-  unfolding lineAt
+  pub in-slice : (f : Line → ℕ) (old new : List ℕ) → new ≡ accepting (r .number) (map f (logOf file) ++ drop (countIn file) old) old → (i : ℕ) → i < countIn file → getD new i 0 ≡ f (lineOfRecord file i)
+  unfolding lineOfRecord
   in-slice f old new e i h = rw (e, eq-eqb (r .number) 0 ok) (getD-front f (logOf file) (drop (countIn file) old) i (rw (logged file) h))
 
   -- demand 3: an accepted Read among the records answers the latest accepted write before it
@@ -137,9 +126,9 @@ module _ (file m k w numbers values : List ℕ) (r : Report) (m′ k′ w′ num
   run-reads-latest co i h n c =
       let a = its-action file i h in
       let told = in-slice (λ line. line .told .number) numbers numbers′ (s .numbers-are) i h in
-      let read : acceptedRead (lineAt file i) ≡ true = rw (sym told, n, a, c) in
+      let read : acceptedRead (lineOfRecord file i) ≡ true = rw (sym told, n, a, c) in
       in-slice (λ line. line .told .value) values values′ (s .values-are) i h
-      ∙ rw a at (session-reads-latest file co (take i (logOf file)) (drop (suc i) (logOf file)) (lineAt file i) (cut-at file i h) read)
+      ∙ rw a at (session-reads-latest file co (take i (logOf file)) (drop (suc i) (logOf file)) (lineOfRecord file i) (cut-at file i h) read)
 
   pub run-not-stale : 2 ≤ ruleIn file → r .stale ≡ 0
   run-not-stale l =

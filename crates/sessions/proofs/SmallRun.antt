@@ -11,7 +11,7 @@ use Rattle.protocol.specs.Runs.{Line}
 use Rattle.protocol.proofs.SmallNumbers.{SmallActions, SmallLines, fresh-log-small}
 use Rattle.sessions.specs.File.{Below, le32, values, actionAt, actions, ruleIn, boardsIn, cellsIn, startingIn, recordsIn}
 use Rattle.sessions.specs.Run.{actionsOf, logOf, acceptedIn, countBelow, sumBelow, staleIn, staleOf}
-use Rattle.sessions.proofs.BytesLaws.{length-values}
+use Rattle.sessions.proofs.BytesLaws.{length-starting}
 
 -- ---- the numbers of a file of bytes
 
@@ -42,7 +42,7 @@ module _ (s : List ℕ) (b : (i : ℕ) → getD s i 0 < 256) where
 pub log-of-bytes : (file : List ℕ) → Below 256 file → SmallLines 4294967296 (logOf file)
 unfolding logOf
 log-of-bytes file b =
-    rw (length-values file 9 (cellsIn file)) at
+    rw (length-starting file) at
     (fresh-log-small 4294967296 (ruleIn file) (boardsIn file) (startingIn file) (actionsOf file) (omega arith) (values-small file bytes 9 (cellsIn file)) (actions-small (recordsIn file) in-records 0 (length (recordsIn file) / 9)))
   where
     bytes : (i : ℕ) → getD file i 0 < 256

@@ -4,11 +4,15 @@ use mathlib.Core.List.{List}
 use Prim.Native.Nat.{ℕ}
 use Rattle.protocol.specs.declared.Answer.{Answer}
 use Rattle.sessions.specs.declared.Report.{Report}
-use Rattle.sessions.specs.Statements.{accepting, Reads, Writes, Runs, SameRead, SameWrite, SameRun}
+use Rattle.sessions.specs.declared.Sizes.{Sizes}
+use Rattle.sessions.specs.Statements.{accepting, SizesIn, Reads, Writes, Runs, SameSizes, SameRead, SameWrite, SameRun}
 
 -- what follows from the number is the same where the number is
 by-number : {A : Type 0} (n n′ : ℕ) (a b x y : A) → n ≡ n′ → x ≡ accepting n a b → y ≡ accepting n′ a b → x ≡ y
 by-number {A = A} n n′ a b x y e p q = p ∙ ap (λ (k : ℕ). accepting {A = A} k a b) e ∙ sym q
+
+pub one-sizes : (file : List ℕ) (r r′ : Sizes) → SizesIn file r → SizesIn file r′ → SameSizes r r′
+one-sizes file r r′ f g = record { same-boards = f .boards-is ∙ sym (g .boards-is); same-cells = f .cells-is ∙ sym (g .cells-is) }
 
 pub one-read : (file old records records′ : List ℕ) (number number′ rule rule′ boards boards′ cells cells′ : ℕ) (starting starting′ : List ℕ) →
     Reads file old records number rule boards cells starting → Reads file old records′ number′ rule′ boards′ cells′ starting′ →

@@ -10,7 +10,7 @@ use Rattle.protocol.specs.Slices.{Table}
 use Rattle.protocol.specs.Cell.{copyAt, liveMask, cellOf}
 use Rattle.protocol.specs.Fresh.{freshTable}
 use Rattle.protocol.specs.Runs.{Line, log, tableAfterAll, latestWrite}
-use Rattle.sessions.specs.File.{ruleIn, boardsIn, cellsIn, startingIn, recordsIn, actionsIn}
+use Rattle.sessions.specs.File.{ruleIn, boardsIn, cellsIn, startingIn, recordsIn, actionAt, actionsIn}
 
 -- the records of a file as actions, the table at the end, and the log
 abbrev pub actionsOf : (file : List ℕ) → List Action
@@ -21,6 +21,14 @@ endOf file = tableAfterAll (ruleIn file) (boardsIn file) (cellsIn file) (freshTa
 
 unfoldable pub logOf : (file : List ℕ) → List Line
 logOf file = log (ruleIn file) (boardsIn file) (cellsIn file) (freshTable (boardsIn file) (startingIn file)) (actionsOf file)
+
+-- what stands where a log has no line
+abbrev pub noLine : Line
+noLine = record { action = actionAt [] 0; told = record { number = 0; value = 0 } }
+
+-- the line of the i-th record
+unfoldable pub lineOfRecord : (file : List ℕ) → (i : ℕ) → Line
+lineOfRecord file i = getD (logOf file) i noLine
 
 -- "accepted records"
 unfoldable pub acceptedIn : List Line → ℕ

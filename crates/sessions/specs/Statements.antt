@@ -2,8 +2,8 @@
 use mathlib.Core.Path.{_≡_}
 use mathlib.Core.Bool.{cond}
 use mathlib.Core.List.{List, [], _++_, map}
-use Prim.Native.Nat.{ℕ}
-use lib.Dec.{eqb}
+use Prim.Native.Nat.{ℕ, _<_}
+use lib.Dec.{eqb, ltb}
 use lib.ListN.{length, drop}
 use Rattle.protocol.specs.declared.Answer.{Answer}
 use Rattle.protocol.specs.First.{firstNumber}
@@ -11,12 +11,19 @@ use Rattle.sessions.specs.File.{ruleIn, boardsIn, cellsIn, startingIn, r
 use Rattle.sessions.specs.FileRefusals.{readRefusals, writeRefusals, countIn, runRefusals}
 use Rattle.sessions.specs.Run.{endOf, logOf, acceptedIn, staleOf}
 use Rattle.sessions.specs.declared.Report.{Report}
+use Rattle.sessions.specs.declared.Sizes.{Sizes}
 use Rattle.table.specs.Statements.{Holds}
 use Rattle.protocol.specs.Slices.{tableOf}
 
 -- a where the number is 0, else b
 abbrev pub accepting {ℓ} : {A : Type ℓ} → (number : ℕ) → A → A → A
 accepting number a b = cond (eqb number 0) a b
+
+-- `sizes_in`: P and N where the file has its first nine bytes, else 0; N is a 16-bit number
+pub record SizesIn (file : List ℕ) (r : Sizes) : Type 0 where
+  pub boards-is : r .boards ≡ cond (ltb (length file) 9) 0 (boardsIn file)
+  pub cells-is : r .cells ≡ cond (ltb (length file) 9) 0 (cellsIn file)
+  pub few-cells : r .cells < 65536
 
 -- `read`: "answers rule, P and N, fills a lent slice .. and hands back the record bytes as a part of the caller's file; for a refused file the
 -- three are 0 and the part is empty"
@@ -54,6 +61,10 @@ pub record ReadAs (file : List ℕ) (rule boards cells : ℕ) (starting records 
   pub same-records : recordsIn file ≡ records
 
 -- ---- two outcomes of a call are the same: the answer, and what each lent slice holds
+
+pub record SameSizes (r r′ : Sizes) : Type 0 where
+  pub same-boards : r .boards ≡ r′ .boards
+  pub same-cells : r .cells ≡ r′ .cells
 
 pub record SameRead (records records′ : List ℕ) (number number′ rule rule′ boards boards′ cells cells′ : ℕ) (starting starting′ : List ℕ) : Type 0 where
   pub same-records : records ≡ records′

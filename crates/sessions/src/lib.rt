@@ -1,5 +1,5 @@
 // The session file and its run: a reader, a writer, and a run of the file's records over a table in lent memory.
-ghost use Rattle.sessions.specs.Statements.{Reads, Writes, Runs};
+ghost use Rattle.sessions.specs.Statements.{SizesIn, Reads, Writes, Runs};
 
 mod bytes;
 mod reader;
@@ -10,6 +10,12 @@ mod stale;
 mod writer;
 
 use protocol::Answer;
+
+// How many boards and cells a session file has.
+pub struct Sizes {
+    pub boards: usize,
+    pub cells: usize,
+}
 
 // What a run reports: the number of its answer, how many records were accepted, and how many copies are stale at its end.
 pub struct Report {
@@ -25,6 +31,22 @@ pub struct Session<'a> {
     pub rule: u8,
     pub boards: usize,
     pub cells: usize,
+}
+
+// P and N as a file's first nine bytes say them; both 0 where it has fewer. What to lend to `read` and `run` follows from them.
+pub fn sizes_in(file: &[u8]) -> Sizes
+    ensures { λ r. ⌜ SizesIn (now (file .entry)) r ⌝ }
+{
+    if file.len() < 9 {
+        return Sizes {
+            boards: 0,
+            cells: 0,
+        };
+    }
+    Sizes {
+        boards: file[6] as usize,
+        cells: bytes::read16(file, 7) as usize,
+    }
 }
 
 // Reads a session file, and fills `starting`, which must have exactly N places, with its starting values. A refused file gives 0 for the three

@@ -24,10 +24,9 @@ fn refusal(file: &[u8], lent: usize) -> u8
     if head != protocol::ACCEPTED {
         return head;
     }
-    let boards = file[6] as usize;
-    let cells = bytes::read16(file, 7) as usize;
-    let sizes_bad = !refusals::in_range(boards, cells) | (lent != cells);
-    refusals::body_refusal(sizes_bad, file[5], refusals::body_bad(file, cells))
+    let sizes = crate::sizes_in(file);
+    let sizes_bad = !table::in_range(sizes.boards, sizes.cells) | (lent != sizes.cells);
+    refusals::body_refusal(sizes_bad, file[5], refusals::body_bad(file, sizes.cells))
 }
 
 // Everything that reading does, but for the part of the records itself.
@@ -45,12 +44,12 @@ pub fn read_header(file: &[u8], starting: &mut [u32]) -> Header
         };
     }
     bytes::read_values(file, 9, starting);
-    let cells = bytes::read16(file, 7) as usize;
+    let sizes = crate::sizes_in(file);
     Header {
         number,
         rule: file[5],
-        boards: file[6] as usize,
-        cells,
-        from: 9 + 4 * cells,
+        boards: sizes.boards,
+        cells: sizes.cells,
+        from: 9 + 4 * sizes.cells,
     }
 }

@@ -3,7 +3,6 @@ ghost use mathlib.Core.Path.{_≡_};
 ghost use Prim.Native.Nat.{_<_, _≤_};
 ghost use lib.ListN.{length};
 ghost use Rattle.protocol.specs.First.{firstNumber};
-ghost use Rattle.protocol.specs.Slices.{inRange};
 ghost use Rattle.sessions.specs.File.{marked, cellsIn};
 ghost use Rattle.sessions.specs.FileRefusals.{headRefusals, bodyRefusals, recordsBad, bodyBad};
 use crate::bytes;
@@ -30,13 +29,6 @@ pub fn head_refusal(file: &[u8]) -> u8
         return protocol::WRONG_VERSION;
     }
     protocol::ACCEPTED
-}
-
-// P is 1 to 16, and N is 1 to 512.
-pub fn in_range(boards: usize, cells: usize) -> bool
-    ensures { λ r. ⌜ r ≡ inRange boards cells ⌝ }
-{
-    ((1 <= boards) & (boards <= 16)) & ((1 <= cells) & (cells <= 512))
 }
 
 // So many bytes are no whole records, or too many.

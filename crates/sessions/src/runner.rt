@@ -2,7 +2,7 @@
 ghost use mathlib.Core.Path.{_≡_};
 ghost use lib.ListN.{length};
 ghost use Rattle.protocol.specs.First.{firstNumber};
-ghost use Rattle.protocol.specs.Slices.{tableOf, sizesGood};
+ghost use Rattle.protocol.specs.Slices.{tableOf};
 ghost use Rattle.sessions.specs.File.{cellsIn};
 ghost use Rattle.sessions.specs.FileRefusals.{runRefusals};
 ghost use Rattle.sessions.specs.Code.{Finished};
@@ -11,16 +11,6 @@ use crate::bytes;
 use crate::records;
 use crate::refusals;
 use crate::stale;
-
-// P and N are in range, and the lent table's lengths are right.
-fn table_fits(boards: usize, cells: usize, main: &[u32], copies: &[u32], masks: &[u16]) -> bool
-    ensures { λ r. ⌜ r ≡ sizesGood boards cells (tableOf (now (main .entry)) (now (copies .entry)) (now (masks .entry))) ⌝ }
-{
-    if !refusals::in_range(boards, cells) {
-        return false;
-    }
-    (main.len() == cells) & ((copies.len() == cells * boards) & (masks.len() == cells * 3))
-}
 
 // The number that refuses a run, or 0.
 pub fn refusal(
@@ -37,14 +27,13 @@ pub fn refusal(
     if head != protocol::ACCEPTED {
         return head;
     }
-    let boards = file[6] as usize;
-    let cells = bytes::read16(file, 7) as usize;
-    let fits = table_fits(boards, cells, main, copies, masks);
-    let body = refusals::body_refusal(!fits, file[5], refusals::body_bad(file, cells));
+    let sizes = crate::sizes_in(file);
+    let fits = table::sizes_good(sizes.boards, sizes.cells, main, copies, masks);
+    let body = refusals::body_refusal(!fits, file[5], refusals::body_bad(file, sizes.cells));
     if body != protocol::ACCEPTED {
         return body;
     }
-    let count = (file.len() - (9 + 4 * cells)) / 9;
+    let count = (file.len() - (9 + 4 * sizes.cells)) / 9;
     if (numbers < count) | (values < count) {
         return protocol::NO_ROOM;
     }
@@ -64,15 +53,14 @@ fn perform(
     requires { ⌜ (firstNumber (runRefusals (now file) (tableOf (now main) (now copies) (now masks)) (length (now numbers)) (length (now values))) ≡ 0) × (length (now latest) ≡ cellsIn (now file)) ⌝ }
     ensures { λ r. ⌜ Finished (now (file .entry)) (now (numbers .entry)) (now (values .entry)) r (now (main .exit)) (now (copies .exit)) (now (masks .exit)) (now (numbers .exit)) (now (values .exit)) ⌝ }
 {
-    let boards = file[6] as usize;
-    let cells = bytes::read16(file, 7) as usize;
+    let sizes = crate::sizes_in(file);
     bytes::read_values(file, 9, latest);
-    let fresh = table::fresh(boards, cells, latest, main, copies, masks);
+    let fresh = table::fresh(sizes.boards, sizes.cells, latest, main, copies, masks);
     let accepted = records::perform_all(
         file[5],
-        boards,
-        cells,
-        bytes::tail(file, 9 + 4 * cells),
+        sizes.boards,
+        sizes.cells,
+        bytes::tail(file, 9 + 4 * sizes.cells),
         main,
         copies,
         masks,
@@ -84,7 +72,7 @@ fn perform(
     Report {
         number: fresh.number,
         accepted,
-        stale: stale::count(boards, cells, copies, masks, latest),
+        stale: stale::count(sizes.boards, sizes.cells, copies, masks, latest),
     }
 }
 
@@ -100,7 +88,7 @@ pub fn with_latest(
     requires { ⌜ firstNumber (runRefusals (now file) (tableOf (now main) (now copies) (now masks)) (length (now numbers)) (length (now values))) ≡ 0 ⌝ }
     ensures { λ r. ⌜ Finished (now (file .entry)) (now (numbers .entry)) (now (values .entry)) r (now (main .exit)) (now (copies .exit)) (now (masks .exit)) (now (numbers .exit)) (now (values .exit)) ⌝ }
 {
-    let cells = bytes::read16(file, 7) as usize;
+    let sizes = crate::sizes_in(file);
     let mut latest = [0u32; 512];
     perform(
         file,
@@ -109,6 +97,6 @@ pub fn with_latest(
         masks,
         numbers,
         values,
-        &mut latest[..cells],
+        &mut latest[..sizes.cells],
     )
 }

@@ -20,7 +20,7 @@ pub fn refusal(
 ) -> u8
     ensures { λ r. ⌜ r ≡ firstNumber (writeRefusals rule boards cells starting records room) ⌝ }
 {
-    let sizes_bad = !refusals::in_range(boards, cells) | (starting != cells);
+    let sizes_bad = !table::in_range(boards, cells) | (starting != cells);
     let body = refusals::body_refusal(sizes_bad, rule, refusals::records_bad(records));
     if body != protocol::ACCEPTED {
         return body;

@@ -1,33 +1,27 @@
 -- Good sizes as the code tests them: the range first, so that no product wraps, then the lengths. Assumes nothing.
 use mathlib.Core.Path.{_≡_}
-use mathlib.Core.Bool.{Bool, true, false, _&&_, and-true}
+use mathlib.Core.Bool.{true, false, _&&_, and-true}
 use mathlib.Core.List.{List}
 use Prim.Native.Nat.{ℕ, _*_, _≤_}
 use native.Mathlib.Omega.{arith}
 use native.Mathlib.Nat.{mul-le-mul-left}
-use lib.Dec.{eqb, leb}
+use lib.Dec.{eqb}
 use lib.ListN.{length}
 use Rattle.protocol.specs.Slices.{tableOf, width, every, inRange, sizesGood}
 use Rattle.protocol.proofs.InWords.{range-exactly}
 
--- the range, as the code tests it
-abbrev pub tested : (boards cells : ℕ) → Bool
-tested boards cells = (leb 1 boards && leb boards 16) && (leb 1 cells && leb cells 512)
-
 module _ (boards cells : ℕ) (m k w : List ℕ) where
-  pub out-of-range : tested boards cells ≡ false → sizesGood boards cells (tableOf m k w) ≡ false
-  unfolding sizesGood inRange
+  pub out-of-range : inRange boards cells ≡ false → sizesGood boards cells (tableOf m k w) ≡ false
+  unfolding sizesGood
   out-of-range e = rw e
 
-  pub by-lengths : tested boards cells ≡ true →
+  pub by-lengths : inRange boards cells ≡ true →
       (eqb (length m) cells && (eqb (length k) (cells * boards) && eqb (length w) (cells * 3))) ≡ sizesGood boards cells (tableOf m k w)
-  unfolding sizesGood inRange every width
+  unfolding sizesGood every width
   by-lengths e = let one : cells * 1 ≡ cells = omega arith in rw (e, one, and-true (eqb (length w) (cells * 3)))
 
-pub small-product : (boards cells : ℕ) → tested boards cells ≡ true → cells * boards ≤ 8192
-unfolding inRange
+pub small-product : (boards cells : ℕ) → inRange boards cells ≡ true → cells * boards ≤ 8192
 small-product boards cells e = let r = range-exactly boards cells .0 e in omega (arith, mul-le-mul-left cells (r .0 .1), r .1 .1)
 
-pub small-cells : (boards cells : ℕ) → tested boards cells ≡ true → cells ≤ 512
-unfolding inRange
+pub small-cells : (boards cells : ℕ) → inRange boards cells ≡ true → cells ≤ 512
 small-cells boards cells e = range-exactly boards cells .0 e .1 .1

@@ -1,23 +1,13 @@
 // An action on a table in lent slices: what stands against it, and what it does.
 ghost use mathlib.Core.Path.{_≡_};
 ghost use Prim.Native.Nat.{_≤_};
-ghost use Rattle.protocol.specs.Slices.{tableOf, sizesGood};
+ghost use Rattle.protocol.specs.Slices.{tableOf};
 ghost use Rattle.protocol.specs.Step.{answer};
 ghost use Rattle.table.specs.Code.{Room, Performs, actionOf};
 use crate::cell;
 use crate::mask;
 use crate::rules;
 use protocol::Action;
-
-// P is 1 to 16, N is 1 to 512, and each slice has exactly its length.
-pub fn sizes_good(boards: usize, cells: usize, main: &[u32], copies: &[u32], masks: &[u16]) -> bool
-    ensures { λ r. ⌜ r ≡ sizesGood boards cells (tableOf (now (main .entry)) (now (copies .entry)) (now (masks .entry))) ⌝ }
-{
-    if !(((1 <= boards) & (boards <= 16)) & ((1 <= cells) & (cells <= 512))) {
-        return false;
-    }
-    (main.len() == cells) & ((copies.len() == cells * boards) & (masks.len() == cells * 3))
-}
 
 // The number of an action's answer. Nothing is changed, and of the cells only the named one is looked at.
 pub fn refusal(
@@ -31,7 +21,7 @@ pub fn refusal(
 ) -> u8
     ensures { λ r. ⌜ r ≡ answer rule boards cells (tableOf (now (main .entry)) (now (copies .entry)) (now (masks .entry))) a .number ⌝ }
 {
-    if !sizes_good(boards, cells, main, copies, masks) {
+    if !crate::sizes_good(boards, cells, main, copies, masks) {
         return protocol::BAD_SIZES;
     }
     if rule > 4 {

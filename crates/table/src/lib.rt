@@ -1,4 +1,6 @@
-// The table over lent memory: a fresh table, a check of the whole table, and one action on it.
+// The table over lent memory: its sizes, a fresh table, a check of the whole table, and one action on it.
+ghost use mathlib.Core.Path.{_≡_};
+ghost use Rattle.protocol.specs.Slices.{tableOf, inRange, sizesGood};
 ghost use Rattle.table.specs.Statements.{Freshens, Checks, Steps};
 
 mod action;
@@ -17,6 +19,24 @@ pub enum Checked {
     Refused(u8),
 }
 
+// P is 1 to 16, and N is 1 to 512.
+pub fn in_range(boards: usize, cells: usize) -> bool
+    ensures { λ r. ⌜ r ≡ inRange boards cells ⌝ }
+{
+    ((1 <= boards) & (boards <= 16)) & ((1 <= cells) & (cells <= 512))
+}
+
+// P and N are in range, and each slice has exactly its length.
+pub fn sizes_good(boards: usize, cells: usize, main: &[u32], copies: &[u32], masks: &[u16]) -> bool
+    ensures { λ r. ⌜ r ≡ sizesGood boards cells (tableOf (now (main .entry)) (now (copies .entry)) (now (masks .entry))) ⌝ }
+{
+    // The range first, so that no product wraps.
+    if !in_range(boards, cells) {
+        return false;
+    }
+    (main.len() == cells) & ((copies.len() == cells * boards) & (masks.len() == cells * 3))
+}
+
 // A fresh table: main is `starting`, every copy and mask is 0.
 pub fn fresh(
     boards: usize,
@@ -28,7 +48,7 @@ pub fn fresh(
 ) -> Answer
     ensures { λ r. ⌜ Freshens boards cells (now (main .entry)) (now (copies .entry)) (now (masks .entry)) (now (starting .entry)) r (now (main .exit)) (now (copies .exit)) (now (masks .exit)) ⌝ }
 {
-    if !action::sizes_good(boards, cells, main, copies, masks) {
+    if !sizes_good(boards, cells, main, copies, masks) {
         return Answer {
             number: protocol::BAD_SIZES,
             value: 0,
@@ -60,7 +80,7 @@ pub fn check(
 ) -> Checked
     ensures { λ r. ⌜ Checks boards cells (now (main .entry)) (now (copies .entry)) (now (masks .entry)) rule r ⌝ }
 {
-    if !action::sizes_good(boards, cells, main, copies, masks) {
+    if !sizes_good(boards, cells, main, copies, masks) {
         return Checked::Refused(protocol::BAD_SIZES);
     }
     if rule > 4 {

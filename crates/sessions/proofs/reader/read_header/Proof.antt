@@ -3,6 +3,7 @@ use mathlib.Core.Path.{sym, _∙_}
 use native.Mathlib.Omega.{arith}
 use lib.ListN.{length}
 use Rattle.sessions.proofs.AcceptedLaws.{Readable, readable}
+use Rattle.sessions.proofs.BytesLaws.{sizes-are}
 use Rattle.sessions.proofs.ReadLaws.{reads-refused, reads-accepted}
 use borrow.Author.Needs.{needs}
 use Rattle.sessions.proofs.reader.read_header.Statement.{statement}
@@ -21,32 +22,23 @@ returns c = reads-refused _ _ _ (c .before .refusal .ensures) (c .if1 .taken)
 read-values-requires : tie.Need-read-values-requires
 read-values-requires c κs = omega (arith, good (c .before) .valued, good (c .before) .sizes .matching)
 
-read16-requires : tie.Need-read16-requires
-read16-requires c κs = omega (arith, good (c .before .before .before .before) .valued)
+sizes-in-requires : tie.Need-sizes-in-requires
+sizes-in-requires c κs = search needs
 
-cast-cells : tie.Need-cast-cells
-cast-cells c = search needs
+shared-slice-read-t12 : tie.Need-shared-slice-read-t12
+shared-slice-read-t12 c = omega (arith, good (c .before .before .before .before .before .before) .valued)
 
-shared-slice-read-t13 : tie.Need-shared-slice-read-t13
-shared-slice-read-t13 c = omega (arith, good (c .before .before .before .before .before .before) .valued)
+mul-t5 : tie.Need-mul-t5
+mul-t5 c = search needs
 
-shared-slice-read-t15 : tie.Need-shared-slice-read-t15
-shared-slice-read-t15 c = omega (arith, good (c .before .before .before .before .before .before .before) .valued)
-
-cast-t5 : tie.Need-cast-t5
-cast-t5 c = omega (arith, c .shared-slice-known3 .given 6)
-
-mul-t16 : tie.Need-mul-t16
-mul-t16 c = search needs
-
-add-t17 : tie.Need-add-t17
-add-t17 c = search needs
+add-t13 : tie.Need-add-t13
+add-t13 c = search needs
 
 same-length : tie.Need-same-length
 same-length c = search needs
 
 returns-2 : tie.Need-returns-2
-returns-2 c = reads-accepted _ _ _ (c .before .before .before .before .before .before .before .before .refusal .ensures) (c .before .before .before .before .before .before .before .if1 .left) _ (c .before .before .read16 .ensures) _ (c .before .before .before .before .before .read-values .ensures)
+returns-2 c = reads-accepted _ _ _ (c .before .before .before .before .before .before .before .before .refusal .ensures) (c .before .before .before .before .before .before .before .if1 .left) _ _ (sizes-are _ _ (c .before .before .sizes-in .ensures) (good (c .before .before .before .before .before .before .before) .headed-whole)) _ (c .before .before .before .before .before .read-values .ensures)
 
 pub read-header-spec : {M : Type 1} → statement M
 read-header-spec =
@@ -55,12 +47,9 @@ read-header-spec =
     refusal-requires
     returns
     read-values-requires
-    read16-requires
-    cast-cells
-    shared-slice-read-t13
-    shared-slice-read-t15
-    cast-t5
-    mul-t16
-    add-t17
+    sizes-in-requires
+    shared-slice-read-t12
+    mul-t5
+    add-t13
     same-length
     returns-2)

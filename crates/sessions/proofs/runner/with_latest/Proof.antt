@@ -1,20 +1,22 @@
 -- `with_latest` lends a place for each cell. Assumes nothing.
-use mathlib.Core.Path.{sym, _∙_}
+use mathlib.Core.Path.{_≡_, sym, _∙_}
 use Prim.Native.Nat.{_≤_}
 use lib.Seq.{length-take-le}
+use Rattle.sessions.specs.File.{cellsIn}
 use Rattle.sessions.proofs.AcceptedLaws.{runnable}
+use Rattle.sessions.proofs.BytesLaws.{sizes-are}
 use borrow.Author.Needs.{needs}
 use Rattle.sessions.proofs.runner.with_latest.Statement.{statement}
 use Rattle.sessions.proofs.runner.with_latest.Tie as tie
 
-few : (c : tie.After-read16) → c .read16 .result ≤ 512
-few c = rw (c .read16 .ensures) ((runnable _ _ _ _ (c .before .before .before .before .before .before .before .pre)) .readable-too .sizes .few-cells)
+cells : (c : tie.After-sizes-in) → c .sizes-in .result .cells ≡ cellsIn (c .before .before .before .before .before .before .before .args .file .now)
+cells c = sizes-are _ _ (c .sizes-in .ensures) (runnable _ _ _ _ (c .before .before .before .before .before .before .before .pre) .readable-too .headed-whole) .1
 
-read16-requires : tie.Need-read16-requires
-read16-requires c κs = (runnable _ _ _ _ (c .before .before .before .before .before .before .pre)) .readable-too .headed-whole
+few : (c : tie.After-sizes-in) → c .sizes-in .result .cells ≤ 512
+few c = rw (cells c) (runnable _ _ _ _ (c .before .before .before .before .before .before .before .pre) .readable-too .sizes .few-cells)
 
-cast-cells : tie.Need-cast-cells
-cast-cells c = search needs
+sizes-in-requires : tie.Need-sizes-in-requires
+sizes-in-requires c κs = search needs
 
 array-borrow-prefix-latest : tie.Need-array-borrow-prefix-latest
 array-borrow-prefix-latest c = few (c .before .before .before .before .before)
@@ -23,7 +25,7 @@ slice-aggregate-perform : tie.Need-slice-aggregate-perform
 slice-aggregate-perform c = sym (length-take-le _ _ (few (c .before .before .before .before .before .before)))
 
 perform-requires : tie.Need-perform-requires
-perform-requires c κs = (c .before .before .before .before .before .before .before .before .before .before .before .before .before .pre, length-take-le _ _ (few (c .before .before .before .before .before .before)) ∙ c .before .before .before .before .before .before .read16 .ensures)
+perform-requires c κs = (c .before .before .before .before .before .before .before .before .before .before .before .before .before .pre, length-take-le _ _ (few (c .before .before .before .before .before .before)) ∙ cells (c .before .before .before .before .before .before))
 
 same-length : tie.Need-same-length
 same-length c = search needs
@@ -47,8 +49,7 @@ pub with-latest-spec : {M : Type 1} → statement M
 with-latest-spec =
     tie.close
     (tie.spec
-    read16-requires
-    cast-cells
+    sizes-in-requires
     array-borrow-prefix-latest
     slice-aggregate-perform
     perform-requires

@@ -1,6 +1,6 @@
 -- `refusal` answers the first of the refusals of a session to write; no sum wraps. Assumes nothing.
 use mathlib.Core.Path.{sym, _∙_}
-use Prim.Native.Nat.{_≤_}
+use Prim.Native.Nat.{_/_, _≤_}
 use native.Mathlib.Omega.{arith}
 use Rattle.sessions.proofs.RefusalLaws.{write-body, write-short, write-roomy, write-small}
 use borrow.Author.Needs.{needs}
@@ -8,7 +8,7 @@ use Rattle.sessions.proofs.writer.refusal.Statement.{statement}
 use Rattle.sessions.proofs.writer.refusal.Tie as tie
 
 -- past the first test the lengths are small
-small : (c : tie.Else1) → let a = c .before .before .before .before .args in (a .cells ≤ 512) × (a .records ≤ 36872)
+small : (c : tie.Else1) → let a = c .before .before .before .before .args in (a .cells ≤ 512) × (a .records / 9 ≤ 4096)
 small c = write-small (c .before .before .before .before .args .rule) _ _ (c .before .before .before .before .args .starting) _ _ _ (c .before .before .before .in-range .ensures) (c .before .before .records-bad .ensures) (sym (c .before .body-refusal .ensures) ∙ c .if1 .left)
 
 in-range-requires : tie.Need-in-range-requires

@@ -1,8 +1,8 @@
 -- `in_range` is the range of the sizes. Assumes nothing.
 use mathlib.Core.Path.{refl}
 use Rattle.protocol.specs.Slices.{inRange}
-use Rattle.sessions.proofs.refusals.in_range.Statement.{statement}
-use Rattle.sessions.proofs.refusals.in_range.Tie as tie
+use Rattle.table.proofs.in_range.Statement.{statement}
+use Rattle.table.proofs.in_range.Tie as tie
 
 returns : tie.Need-returns
 unfolding inRange
