@@ -30,5 +30,6 @@ fn main() {
     runner::wrong_lengths();
     reader::files();
     reader::refused_files();
+    reader::only_sizes();
     lister::files();
 }

@@ -148,3 +148,18 @@ pub fn refused_files() {
     heads();
     bodies();
 }
+
+// P and N alone, as whoever lends asks for them.
+fn sizes(label: &[u8], file: &[u8]) {
+    let s = sessions::sizes_in(file);
+    print::label(label);
+    print::count(s.boards);
+    print::count(s.cells);
+    print::end();
+}
+
+pub fn only_sizes() {
+    sizes(b"sizes in 9 bytes:", b"CCS\x01\x00\x04\x02\x01\x02");
+    sizes(b"sizes in 8 bytes:", b"CCS\x01\x00\x04\x02\x01");
+    sizes(b"sizes out of range:", b"CCS\x01\x00\x04\xff\xff\xff\x00");
+}

@@ -1,13 +1,34 @@
 // The writer: its limits, its order, and a whole file.
 use crate::print;
 
-// The number, for s starting values, r bytes of records and room for o bytes.
+// The number, and what the lent bytes hold after it, where they are few.
+fn write_into(
+    label: &[u8],
+    rule: u8,
+    boards: usize,
+    cells: usize,
+    starting: &[u32],
+    records: &[u8],
+    out: &mut [u8],
+) {
+    let a = sessions::write(rule, boards, cells, starting, records, out);
+    print::label(label);
+    print::byte(a.number);
+    print::comma();
+    if out.len() <= 24 {
+        print::bytes(out);
+    }
+    print::end();
+}
+
+// Writes s starting values and r bytes of records into o bytes.
 fn write(label: &[u8], rule: u8, boards: usize, cells: usize, s: usize, r: usize, o: usize) {
     let starting = [6u32; 513];
     let records = [0u8; 36873];
     let mut out = [7u8; 38930];
     if s <= 513 && r <= 36873 && o <= 38930 {
-        let a = sessions::write(
+        write_into(
+            label,
             rule,
             boards,
             cells,
@@ -15,9 +36,6 @@ fn write(label: &[u8], rule: u8, boards: usize, cells: usize, s: usize, r: usize
             &records[..r],
             &mut out[..o],
         );
-        print::label(label);
-        print::byte(a.number);
-        print::end();
     }
 }
 

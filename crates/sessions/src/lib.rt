@@ -112,5 +112,5 @@ pub fn run(
             stale: 0,
         };
     }
-    runner::with_latest(file, main, copies, masks, numbers, values)
+    runner::perform(file, main, copies, masks, numbers, values)
 }

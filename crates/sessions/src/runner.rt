@@ -41,7 +41,7 @@ pub fn refusal(
 }
 
 // The run of a file that is not refused; `latest` has a place for each cell.
-fn perform(
+fn perform_with(
     file: &[u8],
     main: &mut [u32],
     copies: &mut [u32],
@@ -77,7 +77,7 @@ fn perform(
 }
 
 // The same, with the one local buffer: the latest accepted write to each cell.
-pub fn with_latest(
+pub fn perform(
     file: &[u8],
     main: &mut [u32],
     copies: &mut [u32],
@@ -90,7 +90,7 @@ pub fn with_latest(
 {
     let sizes = crate::sizes_in(file);
     let mut latest = [0u32; 512];
-    perform(
+    perform_with(
         file,
         main,
         copies,

@@ -65,10 +65,10 @@ boardSound rule live dirty lock copy current board =
     && (ltb rule 3 || (not (hasBoard lock board) || not (hasAnother live board)))
     && (ltb rule 4 || (not (hasBoard dirty board) || hasBoard lock board))
 
--- n is what the guard of an action answers on every cell with these masks; stale: its board's copy is not the current value
-abbrev pub GuardGives : (rule live dirty lock : ℕ) → (stale : Bool) → Action → (n : ℕ) → Type 0
-GuardGives rule live dirty lock stale a n =
-    (x : Cell) → liveMask x ≡ live → dirtyMask x ≡ dirty → lockMask x ≡ lock → not (eqb (copyAt x (a .board)) (currentValue x)) ≡ stale →
+-- n is what the guard of an action answers on every cell with these masks; differs: its board's copy is not the current value
+abbrev pub GuardGives : (rule live dirty lock : ℕ) → (differs : Bool) → Action → (n : ℕ) → Type 0
+GuardGives rule live dirty lock differs a n =
+    (x : Cell) → liveMask x ≡ live → dirtyMask x ≡ dirty → lockMask x ≡ lock → not (eqb (copyAt x (a .board)) (currentValue x)) ≡ differs →
     n ≡ firstNumber (guard x (ruleOf rule) (procOf a))
 
 -- the action of these numbers

@@ -46,8 +46,8 @@ pub fn refusal(
     let m = cell::masks_at(masks, cell);
     let now = cell::current(boards, main, copies, cell, m.dirty);
     let board = a.board as usize;
-    let stale = copies[cell * boards + board] != now;
-    rules::guard(rule, m, stale, a)
+    let differs = copies[cell * boards + board] != now;
+    rules::guard(rule, m, differs, a)
 }
 
 // The effect of an accepted action, and the value that it answers.

@@ -36,10 +36,10 @@ fn refuse(test: bool, number: u8, then: u8) -> u8
     if test { number } else { then }
 }
 
-// The guard of an action that the rule has; stale: its board's copy is not the current value.
-pub fn guard(rule: u8, m: Masks, stale: bool, a: Action) -> u8
+// The guard of an action that the rule has; differs: its board's copy is not the current value.
+pub fn guard(rule: u8, m: Masks, differs: bool, a: Action) -> u8
     requires { ⌜ (rule ≤ 4) × (a .board < 16) × (a .to < 16) × (isMissing rule (a .code) ≡ false) × (a .code ≤ 8) ⌝ }
-    ensures { λ r. ⌜ GuardGives rule (m .live) (m .dirty) (m .lock) stale a r ⌝ }
+    ensures { λ r. ⌜ GuardGives rule (m .live) (m .dirty) (m .lock) differs a r ⌝ }
 {
     let board = a.board as usize;
     let to = a.to as usize;
@@ -57,7 +57,7 @@ pub fn guard(rule: u8, m: Masks, stale: bool, a: Action) -> u8
         0 => refuse(
             !live,
             protocol::NOT_LIVE,
-            refuse((rule == 1) & stale, protocol::NOT_CURRENT, 0),
+            refuse((rule == 1) & differs, protocol::NOT_CURRENT, 0),
         ),
         // Write
         1 => refuse(

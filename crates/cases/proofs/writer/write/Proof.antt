@@ -8,32 +8,23 @@ use Rattle.cases.proofs.writer.write.Tie as tie
 array-share-prefix-starting : tie.Need-array-share-prefix-starting
 array-share-prefix-starting c = search needs
 
-slice-aggregate-write : tie.Need-slice-aggregate-write
-slice-aggregate-write c = simp length-take (omega (arith, array-share-prefix-starting (c .before)))
+slice-aggregate-write-into : tie.Need-slice-aggregate-write-into
+slice-aggregate-write-into c = simp length-take (omega (arith, array-share-prefix-starting (c .before)))
 
 array-share-prefix-records : tie.Need-array-share-prefix-records
 array-share-prefix-records c = search needs
 
-slice-aggregate-write-2 : tie.Need-slice-aggregate-write-2
-slice-aggregate-write-2 c = simp length-take (omega (arith, array-share-prefix-records (c .before)))
+slice-aggregate-write-into-2 : tie.Need-slice-aggregate-write-into-2
+slice-aggregate-write-into-2 c = simp length-take (omega (arith, array-share-prefix-records (c .before)))
 
 array-borrow-prefix-out : tie.Need-array-borrow-prefix-out
 array-borrow-prefix-out c = search needs
 
-slice-aggregate-write-3 : tie.Need-slice-aggregate-write-3
-slice-aggregate-write-3 c = simp length-take (omega (arith, array-borrow-prefix-out (c .before)))
+slice-aggregate-write-into-3 : tie.Need-slice-aggregate-write-into-3
+slice-aggregate-write-into-3 c = simp length-take (omega (arith, array-borrow-prefix-out (c .before)))
 
-write-requires : tie.Need-write-requires
-write-requires c κs = search needs
-
-label-requires : tie.Need-label-requires
-label-requires c κs = search needs
-
-byte-requires : tie.Need-byte-requires
-byte-requires c κs = search needs
-
-end-requires : tie.Need-end-requires
-end-requires c κs = search needs
+write-into-requires : tie.Need-write-into-requires
+write-into-requires c κs = search needs
 
 returns : tie.Need-returns
 returns c = search needs
@@ -46,14 +37,11 @@ write-spec =
     tie.close
     (tie.spec
     array-share-prefix-starting
-    slice-aggregate-write
+    slice-aggregate-write-into
     array-share-prefix-records
-    slice-aggregate-write-2
+    slice-aggregate-write-into-2
     array-borrow-prefix-out
-    slice-aggregate-write-3
-    write-requires
-    label-requires
-    byte-requires
-    end-requires
+    slice-aggregate-write-into-3
+    write-into-requires
     returns
     returns-2)

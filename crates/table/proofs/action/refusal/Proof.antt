@@ -72,17 +72,17 @@ current-requires c κs = let k = cleared (c .before .before .before) in
 cast-board : tie.Need-cast-board
 cast-board c = search needs
 
-mul-stale : tie.Need-mul-stale
-mul-stale c = let k = cleared (c .before .before .before .before .before) in omega (arith, copy-small _ _ _ _ _ _ (cleared-ready _ _ _ _ _ _ _ k) _ (cleared-boards _ _ _ _ _ _ _ k .0))
+mul-differs : tie.Need-mul-differs
+mul-differs c = let k = cleared (c .before .before .before .before .before) in omega (arith, copy-small _ _ _ _ _ _ (cleared-ready _ _ _ _ _ _ _ k) _ (cleared-boards _ _ _ _ _ _ _ k .0))
 
-add-stale : tie.Need-add-stale
-add-stale c = let k = cleared (c .before .before .before .before .before) in omega (arith, copy-small _ _ _ _ _ _ (cleared-ready _ _ _ _ _ _ _ k) _ (cleared-boards _ _ _ _ _ _ _ k .0))
+add-differs : tie.Need-add-differs
+add-differs c = let k = cleared (c .before .before .before .before .before) in omega (arith, copy-small _ _ _ _ _ _ (cleared-ready _ _ _ _ _ _ _ k) _ (cleared-boards _ _ _ _ _ _ _ k .0))
 
-mul-stale-2 : tie.Need-mul-stale-2
-mul-stale-2 c = let k = cleared (c .before .before .before .before .before) in omega (arith, copy-small _ _ _ _ _ _ (cleared-ready _ _ _ _ _ _ _ k) _ (cleared-boards _ _ _ _ _ _ _ k .0))
+mul-differs-2 : tie.Need-mul-differs-2
+mul-differs-2 c = let k = cleared (c .before .before .before .before .before) in omega (arith, copy-small _ _ _ _ _ _ (cleared-ready _ _ _ _ _ _ _ k) _ (cleared-boards _ _ _ _ _ _ _ k .0))
 
-shared-slice-read-stale : tie.Need-shared-slice-read-stale
-shared-slice-read-stale c = let k = cleared (c .before .before .before .before .before .before) in copy-in _ _ _ _ _ _ (cleared-ready _ _ _ _ _ _ _ k) _ (cleared-boards _ _ _ _ _ _ _ k .0)
+shared-slice-read-differs : tie.Need-shared-slice-read-differs
+shared-slice-read-differs c = let k = cleared (c .before .before .before .before .before .before) in copy-in _ _ _ _ _ _ (cleared-ready _ _ _ _ _ _ _ k) _ (cleared-boards _ _ _ _ _ _ _ k .0)
 
 guard-requires : tie.Need-guard-requires
 guard-requires c κs = let k = cleared (c .before .before .before .before .before .before) in
@@ -113,9 +113,9 @@ refusal-spec =
     masks-at-requires
     current-requires
     cast-board
-    mul-stale
-    add-stale
-    mul-stale-2
-    shared-slice-read-stale
+    mul-differs
+    add-differs
+    mul-differs-2
+    shared-slice-read-differs
     guard-requires
     returns-8)
