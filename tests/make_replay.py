@@ -1,5 +1,5 @@
 #!/usr/bin/env python3
-"""Makes 240 session files and their listings by the model (tests/model.py).
+"""Makes 242 session files and their listings by the model (tests/model.py).
 
     python3 tests/make_replay.py INPUT OUTPUT
 
@@ -18,7 +18,7 @@ from model import (ACQUIRE, BARRIER, CTOC, CTOM, DROP, MTOC, READ, RELEASE,  # n
                    WRITE, record, session)
 
 R = random.Random(20240601)
-TOTAL = 240
+RANDOM = 240
 TOP = 0xFFFFFFFF
 
 
@@ -153,14 +153,20 @@ def files():
         out.append(random_session(rule, 16, 512, 60))
         out.append(random_session(rule, 1, 1, 30))
         out.append(random_session(rule, 16, 1, 60))
-    while len(out) < TOTAL:
+    while len(out) < RANDOM:
         rule = len(out) % 5
         boards = R.choice((2, 2, 2, 3, 3, 4, 5, 8, 15, 16))
         n = R.choice((1, 1, 1, 2, 2, 3, 4, 7, 16, 40))
         out.append(random_session(rule, boards, n, R.randint(5, 70)))
-    assert len(out) == TOTAL
+    assert len(out) == RANDOM
     R.shuffle(out)
-    return out
+    return out + long()
+
+
+def long():
+    """A long listing: a Read of ten digits in each line.  A file longer than any accepted one."""
+    return [session(0, 1, [TOP], [record(MTOC, 0)] + [record(READ, 0)] * 4095),
+            session(4, 16, list(range(512)), [record(READ, 0)] * 4097)]
 
 
 def main():
@@ -187,7 +193,7 @@ def main():
             if answer == 0:
                 taken[rule, code] += 1
     inp, outp = b"".join(inp), b"".join(outp)
-    assert len(inp) < 200_000
+    assert len(inp) < 250_000
     assert all(answers[k] >= 5 for k in (0, 3, 4, 5, 6, *range(8, 17)))
     assert all(refused[k] >= 5 for k in (1, 2, 17, 18, 19))
     assert answers[7] == 0
@@ -199,7 +205,7 @@ def main():
 
     def say(*words):
         print(*words, file=sys.stderr)
-    say("session files:", TOTAL, " accepted:", sum(by_rule.values()),
+    say("session files:", sum(by_rule.values()) + sum(refused.values()), " accepted:", sum(by_rule.values()),
         " refused:", sum(refused.values()))
     say("input bytes:", len(inp), " output bytes:", len(outp), " records run:", records)
     say("number  records  files refused")

@@ -84,10 +84,17 @@ fn of_mtoc() {
     step(b"MtoC, the other's lock", 4, cell(0, 0, 0, 0, 1), mtoc(1));
     step(b"MtoC, its lock", 4, cell(0, 0, 0, 0, 1), mtoc(0));
     step(b"MtoC over an old copy", 0, cell(5, 0, 1, 0, 0), mtoc(0));
+    step(b"MtoC, another live", 2, cell(0, 7, 2, 0, 0), mtoc(0));
+    step(b"MtoC, none live", 3, s0(), mtoc(0));
 }
 
 fn of_ctom() {
     step(b"CtoM, not dirty", 1, cell(7, 0, 1, 0, 0), ctom(0));
+    step(b"CtoM, not dirty", 0, cell(7, 0, 1, 0, 0), ctom(0));
+    step(b"CtoM, not dirty", 3, cell(7, 0, 1, 0, 0), ctom(0));
+    step(b"CtoM, not dirty", 4, cell(7, 0, 1, 0, 0), ctom(0));
+    step(b"CtoM, dirty", 1, s1(), ctom(0));
+    step(b"CtoM, dirty", 2, s1(), ctom(0));
     step(b"CtoM, not live", 2, s0(), ctom(0));
     step(b"CtoM, another dirty", 1, s2(), ctom(1));
     step(b"CtoM, two dirty", 0, cell(9, 8, 3, 3, 0), ctom(1));
@@ -107,6 +114,10 @@ fn of_ctoc() {
         ctoc(1, 0),
     );
     step(b"CtoC to a dirty board, not live", 0, s1(), ctoc(1, 0));
+    step(b"CtoC to a dirty board, not live", 2, s1(), ctoc(1, 0));
+    step(b"CtoC to a dirty board, not live", 3, s1(), ctoc(1, 0));
+    step(b"CtoC, not live", 0, s0(), ctoc(0, 1));
+    step(b"CtoC, not live", 3, s0(), ctoc(0, 1));
     step(b"CtoC, not live", 2, s0(), ctoc(0, 1));
     step(b"CtoC, not live", 4, s0(), ctoc(0, 1));
     step(b"CtoC to itself", 1, cell(7, 0, 1, 0, 0), ctoc(0, 0));
@@ -122,8 +133,13 @@ fn of_ctoc() {
 
 fn of_drop() {
     step(b"Drop, dirty", 0, s1(), drop(0));
+    step(b"Drop, dirty", 1, s1(), drop(0));
+    step(b"Drop, dirty", 2, s1(), drop(0));
+    step(b"Drop, dirty", 3, s1(), drop(0));
     step(b"Drop, dirty", 4, cell(9, 0, 1, 1, 1), drop(0));
     step(b"Drop, live", 1, s2(), drop(1));
+    step(b"Drop, live", 0, cell(7, 0, 1, 0, 0), drop(0));
+    step(b"Drop, live", 2, cell(7, 0, 1, 0, 0), drop(0));
     step(b"Drop, live with its lock", 4, cell(7, 0, 1, 0, 1), drop(0));
 }
 

@@ -42,7 +42,30 @@ fn sizes(label: &[u8], rule: u8, boards: usize, cells: usize, lent: Lengths, act
     }
 }
 
-// The number for a fresh table, what a check finds after it, and the answer of a step after both.
+// Whether the lent table has the right sizes, the answer for a fresh table, and what it holds then, where that is little.
+fn fresh(
+    boards: usize,
+    cells: usize,
+    starting: &[u32],
+    main: &mut [u32],
+    copies: &mut [u32],
+    masks: &mut [u16],
+) {
+    let good = table::sizes_good(boards, cells, main, copies, masks);
+    print::truth(good);
+    print::comma();
+    let r = table::fresh(boards, cells, starting, main, copies, masks);
+    print::byte(r.number);
+    print::value(r.value);
+    print::comma();
+    print::few_values(main);
+    print::comma();
+    print::few_values(copies);
+    print::comma();
+    print::few_masks(masks);
+}
+
+// The same, what a check finds after it, and the answer of a step after both.
 fn sized(
     label: &[u8],
     rule: u8,
@@ -55,8 +78,7 @@ fn sized(
     action: Action,
 ) {
     print::label(label);
-    let r = table::fresh(boards, cells, starting, main, copies, masks);
-    print::byte(r.number);
+    fresh(boards, cells, starting, main, copies, masks);
     print::comma();
     let c = table::check(rule, boards, cells, main, copies, masks);
     print::found(c);
@@ -142,4 +164,21 @@ pub fn wrong_lengths() {
         lent(3, 2, 6, 9),
         act(9, 0, 0, 0, 0),
     );
+}
+
+// Whether P and N are in range.
+fn range(label: &[u8], boards: usize, cells: usize) {
+    print::label(label);
+    let good = table::in_range(boards, cells);
+    print::truth(good);
+    print::end();
+}
+
+pub fn ranges() {
+    range(b"range P 1 N 1:", 1, 1);
+    range(b"range P 16 N 512:", 16, 512);
+    range(b"range P 0 N 1:", 0, 1);
+    range(b"range P 17 N 1:", 17, 1);
+    range(b"range P 1 N 0:", 1, 0);
+    range(b"range P 1 N 513:", 1, 513);
 }

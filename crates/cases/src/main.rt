@@ -1,8 +1,10 @@
 // Runs the cases of document 01; crates/cases/stdout says what must come out, worked out by hand from the document.
 mod actions;
+mod boards;
 mod cell;
 mod guards;
 mod hand;
+mod large;
 mod lengths;
 mod lister;
 mod order;
@@ -20,15 +22,18 @@ fn main() {
     guards::guards();
     slips::slips();
     slips::damage();
+    boards::highest();
     sound::checks();
     lengths::limits();
     lengths::wrong_lengths();
+    lengths::ranges();
     writer::writes();
     runner::large_files();
     runner::files();
     runner::refused_files();
     runner::wrong_lengths();
     reader::files();
+    reader::large_files();
     reader::refused_files();
     reader::only_sizes();
     lister::files();

@@ -2,7 +2,7 @@
 use table::Checked;
 
 fn number(n: u64) {
-    io::write_all(1, b" ");
+    label(b" ");
     io::print_decimal(1, n);
 }
 
@@ -31,11 +31,11 @@ pub fn ruled(s: &[u8], rule: u8) {
 }
 
 pub fn comma() {
-    io::write_all(1, b",");
+    label(b",");
 }
 
 pub fn end() {
-    io::write_all(1, b"\n");
+    label(b"\n");
 }
 
 pub fn bytes(s: &[u8]) {
@@ -46,11 +46,24 @@ pub fn bytes(s: &[u8]) {
     }
 }
 
+// The same, where they are few.
+pub fn few_bytes(s: &[u8]) {
+    if s.len() <= 24 {
+        bytes(s);
+    }
+}
+
 pub fn values(s: &[u32]) {
     let mut i = 0;
     while i < s.len() {
         value(s[i]);
         i += 1;
+    }
+}
+
+pub fn few_values(s: &[u32]) {
+    if s.len() <= 24 {
+        values(s);
     }
 }
 
@@ -66,17 +79,31 @@ pub fn masks(s: &[u16]) {
     }
 }
 
+pub fn few_masks(s: &[u16]) {
+    if s.len() <= 24 {
+        masks(s);
+    }
+}
+
+pub fn truth(b: bool) {
+    if b {
+        label(b" yes");
+    } else {
+        label(b" no");
+    }
+}
+
 pub fn found(c: Checked) {
     match c {
         Checked::Sound => {
-            io::write_all(1, b" sound");
+            label(b" sound");
         }
         Checked::Unsound(cell) => {
-            io::write_all(1, b" unsound");
+            label(b" unsound");
             count(cell);
         }
         Checked::Refused(n) => {
-            io::write_all(1, b" refused");
+            label(b" refused");
             byte(n);
         }
     }

@@ -1,7 +1,8 @@
 // The reader: its answer, the part of the records, and the lent starting values.
+use crate::large;
 use crate::print;
 
-// What was read: the number, then the rule, P and N, then the records.
+// What was read: the number, then the rule, P and N, then how many bytes of records, and which.
 fn tell(records: &[u8], number: u8, rule: u8, boards: usize, cells: usize) {
     print::byte(number);
     print::comma();
@@ -9,7 +10,9 @@ fn tell(records: &[u8], number: u8, rule: u8, boards: usize, cells: usize) {
     print::count(boards);
     print::count(cells);
     print::comma();
-    print::bytes(records);
+    print::count(records.len());
+    print::comma();
+    print::few_bytes(records);
 }
 
 fn read_and_tell(file: &[u8], starting: &mut [u32]) {
@@ -23,14 +26,12 @@ fn read_and_tell(file: &[u8], starting: &mut [u32]) {
     );
 }
 
-// The same with a label, and what the lent places hold after it, where they are few.
+// The same with a label, and what the lent places hold after it.
 fn read_into(label: &[u8], file: &[u8], starting: &mut [u32]) {
     print::label(label);
     read_and_tell(file, starting);
     print::comma();
-    if starting.len() <= 3 {
-        print::values(starting);
-    }
+    print::few_values(starting);
     print::end();
 }
 
@@ -63,6 +64,22 @@ pub fn files() {
         b"CCS\x01\x00\x00\x10\x01\x00\xff\xff\xff\xff",
         1,
     );
+}
+
+// The first f bytes of the large file, zeros behind it.
+fn read_large(label: &[u8], f: usize) {
+    let mut file = [0u8; 38930];
+    let mut starting = [99u32; 512];
+    large::write(&mut file);
+    if f <= 38930 {
+        read_into(label, &file[..f], &mut starting);
+    }
+}
+
+pub fn large_files() {
+    read_large(b"read 4096 records:", 38921);
+    read_large(b"read 4097 records:", 38930);
+    read_large(b"read 4096 records and a byte:", 38922);
 }
 
 fn lengths() {

@@ -1,18 +1,16 @@
 // The run of a file: its limits, its order, its counts, and all that is lent.
+use crate::large;
 use crate::print;
 
-// The first f bytes of a written file of 16 boards, 512 cells and 4096 records that read what is not live, zeros behind it, over n and v places for the
-// answers: the number and the two counts.
-fn large(label: &[u8], f: usize, n: usize, v: usize) {
-    let starting = [6u32; 512];
-    let records = [0u8; 36864];
+// The first f bytes of the large file, zeros behind it, over n and v places for the answers: the number and the two counts.
+fn run_large(label: &[u8], f: usize, n: usize, v: usize) {
     let mut file = [0u8; 38930];
-    let a = sessions::write(4, 16, 512, &starting, &records, &mut file);
     let mut main = [5u32; 512];
     let mut copies = [5u32; 8192];
     let mut masks = [5u16; 1536];
     let mut numbers = [99u8; 4097];
     let mut values = [99u32; 4097];
+    large::write(&mut file);
     if f <= 38930 && n <= 4097 && v <= 4097 {
         let r = sessions::run(
             &file[..f],
@@ -23,8 +21,6 @@ fn large(label: &[u8], f: usize, n: usize, v: usize) {
             &mut values[..v],
         );
         print::label(label);
-        print::byte(a.number);
-        print::comma();
         print::byte(r.number);
         print::count(r.accepted);
         print::count(r.stale);
@@ -33,11 +29,11 @@ fn large(label: &[u8], f: usize, n: usize, v: usize) {
 }
 
 pub fn large_files() {
-    large(b"run 4096 records:", 38921, 4096, 4096);
-    large(b"run 4097 records:", 38930, 4097, 4097);
-    large(b"run 4096 records and a byte:", 38922, 4097, 4097);
-    large(b"run 4096 records, numbers 4095:", 38921, 4095, 4096);
-    large(b"run 4096 records, values 4095:", 38921, 4096, 4095);
+    run_large(b"run 4096 records:", 38921, 4096, 4096);
+    run_large(b"run 4097 records:", 38930, 4097, 4097);
+    run_large(b"run 4096 records and a byte:", 38922, 4097, 4097);
+    run_large(b"run 4096 records, numbers 4095:", 38921, 4095, 4096);
+    run_large(b"run 4096 records, values 4095:", 38921, 4096, 4095);
 }
 
 // How many places of each slice are lent.
@@ -175,6 +171,16 @@ fn heads() {
         b"run version 2:",
         b"CCS\x02\x00\x04\x02\x01\x00\x07\x00\x00\x00",
         lent(1, 2, 3, 3, 3),
+    );
+    run(
+        b"run wrong mark, main 2:",
+        b"CCT\x01\x00\x04\x02\x01\x00\x07\x00\x00\x00",
+        lent(2, 2, 3, 3, 3),
+    );
+    run(
+        b"run version 2, main 2:",
+        b"CCS\x02\x00\x04\x02\x01\x00\x07\x00\x00\x00",
+        lent(2, 2, 3, 3, 3),
     );
     run(
         b"run version 257:",

@@ -14,10 +14,9 @@ fn write_into(
     let a = sessions::write(rule, boards, cells, starting, records, out);
     print::label(label);
     print::byte(a.number);
+    print::value(a.value);
     print::comma();
-    if out.len() <= 24 {
-        print::bytes(out);
-    }
+    print::few_bytes(out);
     print::end();
 }
 
@@ -47,6 +46,7 @@ fn written() {
     let a = sessions::write(4, 2, 1, &starting, &records, &mut out);
     print::label(b"written:");
     print::byte(a.number);
+    print::value(a.value);
     print::comma();
     print::bytes(&out);
     print::end();
@@ -84,6 +84,9 @@ fn sizes() {
 
 fn order() {
     write(b"write P 0, rule 5:", 5, 0, 1, 1, 0, 13);
+    write(b"write P 0, a part of a record:", 4, 0, 1, 1, 8, 21);
+    write(b"write P 0, no room:", 4, 0, 1, 1, 0, 0);
+    write(b"write rule 5, no room:", 5, 2, 1, 1, 0, 0);
     write(b"write rule 5:", 5, 2, 1, 1, 0, 13);
     write(b"write rule 5, a part of a record:", 5, 2, 1, 1, 8, 21);
     write(b"write a part of a record:", 4, 2, 1, 1, 8, 21);

@@ -1,18 +1,12 @@
--- `large` lends parts of its arrays, each within its length. Assumes nothing.
+-- `run_large` lends parts of its arrays, each within its length. Assumes nothing.
 use lib.ListN.{length-take}
 use native.Mathlib.Omega.{arith}
 use borrow.Author.Needs.{needs}
-use Rattle.cases.proofs.runner.large.Statement.{statement}
-use Rattle.cases.proofs.runner.large.Tie as tie
+use Rattle.cases.proofs.runner.run_large.Statement.{statement}
+use Rattle.cases.proofs.runner.run_large.Tie as tie
 
 slice-aggregate-write : tie.Need-slice-aggregate-write
 slice-aggregate-write c = search needs
-
-slice-aggregate-write-2 : tie.Need-slice-aggregate-write-2
-slice-aggregate-write-2 c = search needs
-
-slice-aggregate-write-3 : tie.Need-slice-aggregate-write-3
-slice-aggregate-write-3 c = search needs
 
 write-requires : tie.Need-write-requires
 write-requires c κs = search needs
@@ -53,12 +47,6 @@ label-requires c κs = search needs
 byte-requires : tie.Need-byte-requires
 byte-requires c κs = search needs
 
-comma-requires : tie.Need-comma-requires
-comma-requires c κs = search needs
-
-byte-requires-2 : tie.Need-byte-requires-2
-byte-requires-2 c κs = search needs
-
 count-requires : tie.Need-count-requires
 count-requires c κs = search needs
 
@@ -74,13 +62,11 @@ returns c = search needs
 returns-2 : tie.Need-returns-2
 returns-2 c = search needs
 
-pub large-spec : {M : Type 1} → statement M
-large-spec =
+pub run-large-spec : {M : Type 1} → statement M
+run-large-spec =
     tie.close
     (tie.spec
     slice-aggregate-write
-    slice-aggregate-write-2
-    slice-aggregate-write-3
     write-requires
     array-share-prefix-file
     slice-aggregate-run
@@ -94,8 +80,6 @@ large-spec =
     run-requires
     label-requires
     byte-requires
-    comma-requires
-    byte-requires-2
     count-requires
     count-requires-2
     end-requires
