@@ -1,5 +1,5 @@
 #!/usr/bin/env python3
-"""Makes the session files of examples/ : the story of document 00.
+"""Makes the session files of examples/ : the accident that README tells.
 
     python3 tests/make_examples.py examples
 

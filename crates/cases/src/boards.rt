@@ -16,16 +16,7 @@ fn step(label: &[u8], rule: u8, copy: u32, live: u16, dirty: u16, lock: u16, act
     let mut copies = [0, 0, 0, 0, 0, 0, 0, 0, 0, 0, 0, 0, 0, 0, 0, copy];
     let mut masks = [live, dirty, lock];
     let r = table::step(rule, 16, 1, &mut main, &mut copies, &mut masks, action);
-    print::ruled(label, rule);
-    print::byte(r.number);
-    print::value(r.value);
-    print::comma();
-    print::values(&main);
-    print::comma();
-    print::values(&copies);
-    print::comma();
-    print::masks(&masks);
-    print::end();
+    print::stepped(label, rule, r, &main, &copies, &masks);
 }
 
 fn accepted() {

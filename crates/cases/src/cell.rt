@@ -44,14 +44,5 @@ pub fn step(label: &[u8], rule: u8, cell: TwoBoards, action: Action) {
     let mut copies = [cell.first, cell.second];
     let mut masks = [cell.live, cell.dirty, cell.lock];
     let r = table::step(rule, 2, 1, &mut main, &mut copies, &mut masks, action);
-    print::ruled(label, rule);
-    print::byte(r.number);
-    print::value(r.value);
-    print::comma();
-    print::values(&main);
-    print::comma();
-    print::values(&copies);
-    print::comma();
-    print::masks(&masks);
-    print::end();
+    print::stepped(label, rule, r, &main, &copies, &masks);
 }

@@ -21,14 +21,14 @@ fn lent(starting: usize, main: usize, copies: usize, masks: usize) -> Lengths {
     }
 }
 
-// Lends slices whose numbers make no sound cell before.
+// Lends slices that hold 5 throughout, so that no cell is sound unless `fresh` made it so.
 fn sizes(label: &[u8], rule: u8, boards: usize, cells: usize, lent: Lengths, action: Action) {
     let starting = [6u32; 513];
     let mut main = [5u32; 513];
     let mut copies = [5u32; 8192];
     let mut masks = [5u16; 1539];
     if lent.starting <= 513 && lent.main <= 513 && lent.copies <= 8192 && lent.masks <= 1539 {
-        sized(
+        sizes_into(
             label,
             rule,
             boards,
@@ -66,7 +66,7 @@ fn fresh(
 }
 
 // The same, what a check finds after it, and the answer of a step after both.
-fn sized(
+fn sizes_into(
     label: &[u8],
     rule: u8,
     boards: usize,

@@ -1,7 +1,9 @@
 // Runs the cases of document 01; crates/cases/stdout says what must come out, worked out by hand from the document.
+// Before a part of an array is lent, its length is tested: that is for the proof, and every case passes.
 mod actions;
 mod boards;
 mod cell;
+mod damage;
 mod guards;
 mod hand;
 mod large;
@@ -21,7 +23,7 @@ fn main() {
     sound::conditions();
     guards::guards();
     slips::slips();
-    slips::damage();
+    damage::elsewhere();
     boards::highest();
     sound::checks();
     lengths::limits();

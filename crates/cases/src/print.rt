@@ -1,4 +1,5 @@
 // What a case prints: a label, then numbers, each behind a blank, and commas between what belongs together.
+use protocol::Answer;
 use table::Checked;
 
 fn number(n: u64) {
@@ -107,4 +108,18 @@ pub fn found(c: Checked) {
             byte(n);
         }
     }
+}
+
+// What an action answered under a rule, and the table after it.
+pub fn stepped(s: &[u8], rule: u8, r: Answer, main: &[u32], copies: &[u32], three: &[u16]) {
+    ruled(s, rule);
+    byte(r.number);
+    value(r.value);
+    comma();
+    values(main);
+    comma();
+    values(copies);
+    comma();
+    masks(three);
+    end();
 }

@@ -67,7 +67,7 @@ fn run(label: &[u8], file: &[u8], lent: Lengths) {
         && lent.numbers <= 3
         && lent.values <= 3
     {
-        ran(
+        run_into(
             label,
             file,
             &mut main[..lent.main],
@@ -80,7 +80,7 @@ fn run(label: &[u8], file: &[u8], lent: Lengths) {
 }
 
 // The number and the two counts, then all that was lent.
-fn ran(
+fn run_into(
     label: &[u8],
     file: &[u8],
     main: &mut [u32],

@@ -1,6 +1,5 @@
-// The slips that look right, and damage in another cell.
+// The slips that look right, in the words of document 01.
 use crate::actions::acquire;
-use crate::actions::act;
 use crate::actions::ctoc;
 use crate::actions::drop;
 use crate::actions::read;
@@ -10,8 +9,6 @@ use crate::cell::s0;
 use crate::cell::s1;
 use crate::cell::s2;
 use crate::cell::step;
-use crate::print;
-use protocol::Action;
 
 // Reading a copy as absent because it holds 0.
 fn absent_because_0() {
@@ -117,41 +114,4 @@ pub fn slips() {
     main_changed();
     receiver_dirty();
     holder_copies();
-}
-
-// One action on two cells of two boards, main 7 and 8: the first copy and the live mask of cell 0 are given, all else is 0.
-fn damaged(label: &[u8], rule: u8, first: u32, live: u16, action: Action) {
-    let mut main = [7u32, 8];
-    let mut copies = [first, 0, 0, 0];
-    let mut masks = [live, 0, 0, 0, 0, 0];
-    let r = table::step(rule, 2, 2, &mut main, &mut copies, &mut masks, action);
-    print::ruled(label, rule);
-    print::byte(r.number);
-    print::value(r.value);
-    print::comma();
-    print::values(&main);
-    print::comma();
-    print::values(&copies);
-    print::comma();
-    print::masks(&masks);
-    print::end();
-}
-
-pub fn damage() {
-    damaged(
-        b"damage in cell 0, MtoC 1 of cell 1",
-        4,
-        5,
-        0,
-        act(3, 1, 0, 1, 0),
-    );
-    damaged(
-        b"damage in cell 0, Read 0 of cell 1",
-        4,
-        0,
-        32768,
-        act(0, 0, 0, 1, 0),
-    );
-    damaged(b"damage in cell 0, Read 0 of cell 0", 4, 5, 0, read(0));
-    damaged(b"no damage, cell 2", 4, 0, 0, act(0, 0, 0, 2, 0));
 }

@@ -8,8 +8,7 @@ use native.Mathlib.Numerals.{add-one}
 use lib.ListN.{getD}
 use Rattle.protocol.specs.Slices.{tableOf, sizesGood}
 use Rattle.table.proofs.ReadyLaws.{ready, copy-is, live-is}
-use Rattle.sessions.specs.Run.{countBelow, sumBelow, staleIn}
-use Rattle.sessions.specs.Code.{isStale}
+use Rattle.sessions.specs.Run.{isStale, countBelow, sumBelow, staleIn}
 
 pub count-more : (n : ℕ) (test : ℕ → Bool) → countBelow (n + 1) test ≡ countBelow n test + cond (test n) 1 0
 unfolding countBelow

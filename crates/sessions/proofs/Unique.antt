@@ -8,7 +8,7 @@ use Rattle.sessions.specs.declared.Sizes.{Sizes}
 use Rattle.sessions.specs.Statements.{accepting, SizesIn, Reads, Writes, Runs, SameSizes, SameRead, SameWrite, SameRun}
 
 -- what follows from the number is the same where the number is
-by-number : {A : Type 0} (n n′ : ℕ) (a b x y : A) → n ≡ n′ → x ≡ accepting n a b → y ≡ accepting n′ a b → x ≡ y
+pub by-number : {A : Type 0} (n n′ : ℕ) (a b x y : A) → n ≡ n′ → x ≡ accepting n a b → y ≡ accepting n′ a b → x ≡ y
 by-number {A = A} n n′ a b x y e p q = p ∙ ap (λ (k : ℕ). accepting {A = A} k a b) e ∙ sym q
 
 pub one-sizes : (file : List ℕ) (r r′ : Sizes) → SizesIn file r → SizesIn file r′ → SameSizes r r′

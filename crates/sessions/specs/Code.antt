@@ -1,22 +1,17 @@
 -- What the private functions of the run ask and answer. Assumes nothing.
 use mathlib.Core.Path.{_≡_}
-use mathlib.Core.Bool.{Bool, cond, not, _&&_}
+use mathlib.Core.Bool.{cond}
 use mathlib.Core.List.{List, _++_, map}
 use Prim.Native.Nat.{ℕ, _*_, _/_, _≤_}
 use lib.Dec.{eqb}
 use lib.ListN.{length, getD, drop}
 use Rattle.protocol.specs.declared.Action.{Action}
-use Rattle.protocol.specs.Masks.{hasBoard}
 use Rattle.protocol.specs.Slices.{tableOf}
 use Rattle.protocol.specs.Runs.{Line, log, tableAfterAll, writtenAfter, latestWrite}
 use Rattle.table.specs.Statements.{Holds}
 use Rattle.sessions.specs.FileRefusals.{countIn}
 use Rattle.sessions.specs.Run.{acceptedIn, logOf, endOf, staleOf}
 use Rattle.sessions.specs.declared.Report.{Report}
-
--- a copy is stale: its board is live, and it is not the latest accepted write
-abbrev pub isStale : (live board copy latest : ℕ) → Bool
-isStale live board copy latest = hasBoard live board && not (eqb copy latest)
 
 -- the slices that the count of stale copies reads
 pub record Counted (boards cells : ℕ) (copies masks latest : List ℕ) : Type 0 where

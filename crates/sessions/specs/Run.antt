@@ -45,10 +45,14 @@ sumBelow zero count = 0
 sumBelow (suc n) count = count n + sumBelow n count
 
 -- "A copy is stale at the end when it is live and its value differs from the latest accepted write to its cell in this session, or from the
--- starting value where there is none": latest gives that of each cell
+-- starting value where there is none"
+abbrev pub isStale : (live board copy latest : ℕ) → Bool
+isStale live board copy latest = hasBoard live board && not (eqb copy latest)
+
+-- the stale copies of a table: latest gives the latest accepted write of each cell, or its starting value
 unfoldable pub staleIn : (boards cells : ℕ) → Table → (latest : ℕ → ℕ) → ℕ
 staleIn boards cells t latest =
-    sumBelow cells (λ c. countBelow boards (λ p. hasBoard (liveMask (cellOf boards cells t c)) p && not (eqb (copyAt (cellOf boards cells t c) p) (latest c))))
+    sumBelow cells (λ c. countBelow boards (λ p. isStale (liveMask (cellOf boards cells t c)) p (copyAt (cellOf boards cells t c) p) (latest c)))
 
 unfoldable pub staleOf : (file : List ℕ) → ℕ
 staleOf file = staleIn (boardsIn file) (cellsIn file) (endOf file) (λ c. latestWrite c (getD (startingIn file) c 0) (logOf file))

@@ -1,4 +1,4 @@
--- Bytes put into a list from a place on: what the writer's helpers promise. Assumes nothing.
+-- Bytes put into a list from a place on: what a function promises that puts bytes. Assumes nothing.
 use mathlib.Core.List.{List, _++_}
 use Prim.Native.Nat.{ℕ, _+_}
 use lib.ListN.{length, take, drop}

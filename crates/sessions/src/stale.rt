@@ -5,16 +5,16 @@ ghost use mathlib.Core.List.{List};
 ghost use Prim.Native.Nat.{ℕ, _+_, _*_, _<_, _≤_};
 ghost use lib.ListN.{length, getD};
 ghost use Rattle.protocol.specs.Slices.{tableOf, sizesGood};
-ghost use Rattle.sessions.specs.Run.{countBelow, staleIn};
-ghost use Rattle.sessions.specs.Code.{isStale, Counted};
+ghost use Rattle.sessions.specs.Run.{countBelow, isStale, staleIn};
+ghost use Rattle.sessions.specs.Code.{Counted};
 
 // 1 for a stale copy, else 0.
 fn one(live: u16, board: usize, copy: u32, latest: u32) -> usize
     requires { ⌜ board < 16 ⌝ }
     ensures { λ r. ⌜ (r ≡ cond (isStale live board copy latest) 1 0) × (r ≤ 1) ⌝ }
 {
-    let held = (live >> board) % 2 == 1;
-    if held & (copy != latest) { 1 } else { 0 }
+    let lives = (live >> board) % 2 == 1;
+    if lives & (copy != latest) { 1 } else { 0 }
 }
 
 // The stale copies of one cell.

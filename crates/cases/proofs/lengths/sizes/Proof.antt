@@ -8,29 +8,29 @@ use Rattle.cases.proofs.lengths.sizes.Tie as tie
 array-share-prefix-starting : tie.Need-array-share-prefix-starting
 array-share-prefix-starting c = search needs
 
-slice-aggregate-sized : tie.Need-slice-aggregate-sized
-slice-aggregate-sized c = simp length-take (omega (arith, array-share-prefix-starting (c .before)))
+slice-aggregate-sizes-into : tie.Need-slice-aggregate-sizes-into
+slice-aggregate-sizes-into c = simp length-take (omega (arith, array-share-prefix-starting (c .before)))
 
 array-borrow-prefix-main : tie.Need-array-borrow-prefix-main
 array-borrow-prefix-main c = search needs
 
-slice-aggregate-sized-2 : tie.Need-slice-aggregate-sized-2
-slice-aggregate-sized-2 c = simp length-take (omega (arith, array-borrow-prefix-main (c .before)))
+slice-aggregate-sizes-into-2 : tie.Need-slice-aggregate-sizes-into-2
+slice-aggregate-sizes-into-2 c = simp length-take (omega (arith, array-borrow-prefix-main (c .before)))
 
 array-borrow-prefix-copies : tie.Need-array-borrow-prefix-copies
 array-borrow-prefix-copies c = search needs
 
-slice-aggregate-sized-3 : tie.Need-slice-aggregate-sized-3
-slice-aggregate-sized-3 c = simp length-take (omega (arith, array-borrow-prefix-copies (c .before)))
+slice-aggregate-sizes-into-3 : tie.Need-slice-aggregate-sizes-into-3
+slice-aggregate-sizes-into-3 c = simp length-take (omega (arith, array-borrow-prefix-copies (c .before)))
 
 array-borrow-prefix-masks : tie.Need-array-borrow-prefix-masks
 array-borrow-prefix-masks c = search needs
 
-slice-aggregate-sized-4 : tie.Need-slice-aggregate-sized-4
-slice-aggregate-sized-4 c = simp length-take (omega (arith, array-borrow-prefix-masks (c .before)))
+slice-aggregate-sizes-into-4 : tie.Need-slice-aggregate-sizes-into-4
+slice-aggregate-sizes-into-4 c = simp length-take (omega (arith, array-borrow-prefix-masks (c .before)))
 
-sized-requires : tie.Need-sized-requires
-sized-requires c κs = search needs
+sizes-into-requires : tie.Need-sizes-into-requires
+sizes-into-requires c κs = search needs
 
 returns : tie.Need-returns
 returns c = search needs
@@ -43,13 +43,13 @@ sizes-spec =
     tie.close
     (tie.spec
     array-share-prefix-starting
-    slice-aggregate-sized
+    slice-aggregate-sizes-into
     array-borrow-prefix-main
-    slice-aggregate-sized-2
+    slice-aggregate-sizes-into-2
     array-borrow-prefix-copies
-    slice-aggregate-sized-3
+    slice-aggregate-sizes-into-3
     array-borrow-prefix-masks
-    slice-aggregate-sized-4
-    sized-requires
+    slice-aggregate-sizes-into-4
+    sizes-into-requires
     returns
     returns-2)

@@ -8,35 +8,35 @@ use Rattle.cases.proofs.runner.run.Tie as tie
 array-borrow-prefix-main : tie.Need-array-borrow-prefix-main
 array-borrow-prefix-main c = search needs
 
-slice-aggregate-ran : tie.Need-slice-aggregate-ran
-slice-aggregate-ran c = simp length-take (omega (arith, array-borrow-prefix-main (c .before)))
+slice-aggregate-run-into : tie.Need-slice-aggregate-run-into
+slice-aggregate-run-into c = simp length-take (omega (arith, array-borrow-prefix-main (c .before)))
 
 array-borrow-prefix-copies : tie.Need-array-borrow-prefix-copies
 array-borrow-prefix-copies c = search needs
 
-slice-aggregate-ran-2 : tie.Need-slice-aggregate-ran-2
-slice-aggregate-ran-2 c = simp length-take (omega (arith, array-borrow-prefix-copies (c .before)))
+slice-aggregate-run-into-2 : tie.Need-slice-aggregate-run-into-2
+slice-aggregate-run-into-2 c = simp length-take (omega (arith, array-borrow-prefix-copies (c .before)))
 
 array-borrow-prefix-masks : tie.Need-array-borrow-prefix-masks
 array-borrow-prefix-masks c = search needs
 
-slice-aggregate-ran-3 : tie.Need-slice-aggregate-ran-3
-slice-aggregate-ran-3 c = simp length-take (omega (arith, array-borrow-prefix-masks (c .before)))
+slice-aggregate-run-into-3 : tie.Need-slice-aggregate-run-into-3
+slice-aggregate-run-into-3 c = simp length-take (omega (arith, array-borrow-prefix-masks (c .before)))
 
 array-borrow-prefix-numbers : tie.Need-array-borrow-prefix-numbers
 array-borrow-prefix-numbers c = search needs
 
-slice-aggregate-ran-4 : tie.Need-slice-aggregate-ran-4
-slice-aggregate-ran-4 c = simp length-take (omega (arith, array-borrow-prefix-numbers (c .before)))
+slice-aggregate-run-into-4 : tie.Need-slice-aggregate-run-into-4
+slice-aggregate-run-into-4 c = simp length-take (omega (arith, array-borrow-prefix-numbers (c .before)))
 
 array-borrow-prefix-values : tie.Need-array-borrow-prefix-values
 array-borrow-prefix-values c = search needs
 
-slice-aggregate-ran-5 : tie.Need-slice-aggregate-ran-5
-slice-aggregate-ran-5 c = simp length-take (omega (arith, array-borrow-prefix-values (c .before)))
+slice-aggregate-run-into-5 : tie.Need-slice-aggregate-run-into-5
+slice-aggregate-run-into-5 c = simp length-take (omega (arith, array-borrow-prefix-values (c .before)))
 
-ran-requires : tie.Need-ran-requires
-ran-requires c κs = search needs
+run-into-requires : tie.Need-run-into-requires
+run-into-requires c κs = search needs
 
 returns : tie.Need-returns
 returns c = search needs
@@ -49,15 +49,15 @@ run-spec =
     tie.close
     (tie.spec
     array-borrow-prefix-main
-    slice-aggregate-ran
+    slice-aggregate-run-into
     array-borrow-prefix-copies
-    slice-aggregate-ran-2
+    slice-aggregate-run-into-2
     array-borrow-prefix-masks
-    slice-aggregate-ran-3
+    slice-aggregate-run-into-3
     array-borrow-prefix-numbers
-    slice-aggregate-ran-4
+    slice-aggregate-run-into-4
     array-borrow-prefix-values
-    slice-aggregate-ran-5
-    ran-requires
+    slice-aggregate-run-into-5
+    run-into-requires
     returns
     returns-2)

@@ -4,8 +4,7 @@ use Prim.Native.Nat.{_+_, _*_, _-_, _≤_}
 use native.Mathlib.Omega.{arith}
 use native.Mathlib.Nat.{mul-le-mul-left}
 use lib.ListN.{getD}
-use Rattle.sessions.specs.Run.{countBelow}
-use Rattle.sessions.specs.Code.{isStale}
+use Rattle.sessions.specs.Run.{isStale, countBelow}
 use Rattle.sessions.proofs.StaleLaws.{count-more}
 use Rattle.sessions.proofs.stale.at_cell.Statement.{statement}
 use Rattle.sessions.proofs.stale.at_cell.Tie as tie

@@ -4,8 +4,7 @@ use Prim.Native.Nat.{_+_, _*_, _-_, _≤_}
 use native.Mathlib.Omega.{arith}
 use native.Mathlib.Nat.{mul-le-mul-right}
 use lib.ListN.{getD}
-use Rattle.sessions.specs.Run.{countBelow, sumBelow}
-use Rattle.sessions.specs.Code.{isStale}
+use Rattle.sessions.specs.Run.{isStale, countBelow, sumBelow}
 use Rattle.sessions.proofs.StaleLaws.{sum-more, by-slices}
 use Rattle.sessions.proofs.stale.count.Statement.{statement}
 use Rattle.sessions.proofs.stale.count.Tie as tie

@@ -5,11 +5,11 @@ use borrow.Author.Needs.{needs}
 use Rattle.sessions.proofs.stale.one.Statement.{statement}
 use Rattle.sessions.proofs.stale.one.Tie as tie
 
-cast-held : tie.Need-cast-held
-cast-held c = search needs
+cast-lives : tie.Need-cast-lives
+cast-lives c = search needs
 
-shr-held : tie.Need-shr-held
-shr-held c = search needs
+shr-lives : tie.Need-shr-lives
+shr-lives c = search needs
 
 returns : tie.Need-returns
 unfolding hasBoard
@@ -20,4 +20,4 @@ unfolding hasBoard
 returns-2 c = (rw (c .if1 .left), omega arith)
 
 pub one-spec : {M : Type 1} → statement M
-one-spec = tie.close (tie.spec cast-held shr-held returns returns-2)
+one-spec = tie.close (tie.spec cast-lives shr-lives returns returns-2)
