@@ -1,10 +1,10 @@
--- `lent_sizes` answers sizes that the local memory has. Assumes nothing.
+-- `sizes` answers sizes that the local memory has. Assumes nothing.
 use mathlib.Core.Path.{sym, _∙_}
 use borrow.Author.Tests.{not-true, not-false}
 use Rattle.listing.proofs.LentLaws.{out-of-range, in-range}
 use borrow.Author.Needs.{needs}
-use Rattle.listing.proofs.local.lent_sizes.Statement.{statement}
-use Rattle.listing.proofs.local.lent_sizes.Tie as tie
+use Rattle.listing.proofs.lent.sizes.Statement.{statement}
+use Rattle.listing.proofs.lent.sizes.Tie as tie
 
 sizes-in-requires : tie.Need-sizes-in-requires
 sizes-in-requires c κs = search needs
@@ -18,5 +18,5 @@ returns c = out-of-range _ _ (c .before .before .sizes-in .ensures) (sym (c .bef
 returns-2 : tie.Need-returns-2
 returns-2 c = in-range _ _ (c .before .before .sizes-in .ensures) (sym (c .before .in-range .ensures) ∙ not-false _ (c .if1 .left))
 
-pub lent-sizes-spec : {M : Type 1} → statement M
-lent-sizes-spec = tie.close (tie.spec sizes-in-requires in-range-requires returns returns-2)
+pub sizes-spec : {M : Type 1} → statement M
+sizes-spec = tie.close (tie.spec sizes-in-requires in-range-requires returns returns-2)
