@@ -1,4 +1,4 @@
--- A file that is cut behind its first 38,922 bytes has the listing of the whole file. Assumes nothing.
+-- A file that is cut behind 38,922 bytes or more has the listing of the whole file. Assumes nothing.
 use mathlib.Core.Path.{_≡_, refl, ap}
 use mathlib.Core.Logic.{_≢_}
 use mathlib.Core.Bool.{Bool, true, false, cond, not, _||_}
@@ -82,9 +82,9 @@ module _ (n : ℕ) (file : List ℕ) (long : 38922 ≤ n) (cut : n ≤ length fi
   cut-alike = rw (refused-alike, ne-eqb (refusalOf file) 0 (refused file (omega arith)))
 
 -- 38,922 is one more than the longest accepted file has: 9 + 4 x 512 + 9 x 4,096
-pub cut-lists-alike : (file : List ℕ) → listingOf (take 38922 file) ≡ listingOf file
-cut-lists-alike file = go (decLt (length file) 38922)
+pub cut-lists-alike : (n : ℕ) (file : List ℕ) → 38922 ≤ n → listingOf (take n file) ≡ listingOf file
+cut-lists-alike n file long = go (decLt (length file) n)
   where
-    go : Dec (length file < 38922) → listingOf (take 38922 file) ≡ listingOf file
-    go (yes h) = ap listingOf (take-all 38922 file (omega arith))
-    go (no h) = cut-alike 38922 file (omega arith) (omega arith)
+    go : Dec (length file < n) → listingOf (take n file) ≡ listingOf file
+    go (yes h) = ap listingOf (take-all n file (omega arith))
+    go (no h) = cut-alike n file long (omega arith)

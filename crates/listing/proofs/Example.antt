@@ -1,7 +1,6 @@
 -- Document 01's 130-byte session and its whole listing, and the listing of an empty file, by computing. Assumes nothing.
 use mathlib.Core.Path.{_≡_, refl}
-use mathlib.Core.List.{List, [], _∷_}
-use Prim.Native.Nat.{ℕ}
+use mathlib.Core.List.{[], _∷_}
 use lib.Count.{ones, onesIn, trailingZeros}
 use Rattle.protocol.specs.Names.{ruleOf, ruleNumber, procOf}
 use Rattle.protocol.specs.Masks.{hasBoard, withBoard, withoutBoard, hasAnother, lowestBoard}
@@ -18,20 +17,13 @@ use Rattle.sessions.specs.File.{le16, le32, marked, values, actionAt, actions}
 use Rattle.sessions.specs.FileRefusals.{headRefusals, bodyRefusals, recordsBad, bodyBad, readRefusals}
 use Rattle.sessions.specs.Run.{endOf, logOf, acceptedIn, countBelow, sumBelow, staleIn, staleOf}
 use Rattle.listing.specs.Decimal.{digitsIn, digits}
+use Rattle.listing.specs.Example.{session, listing}
 use Rattle.listing.specs.Listing.{line, recordLine, recordLines, refusedListing, runListing, listingOf}
 
 -- "refused 19"
 pub empty-file : listingOf [] ≡ 114 ∷ 101 ∷ 102 ∷ 117 ∷ 115 ∷ 101 ∷ 100 ∷ 32 ∷ 49 ∷ 57 ∷ 10 ∷ []
 unfolding listingOf refusedListing readRefusals headRefusals line digits digitsIn
 empty-file = refl
-
--- "This 130-byte session has rule 4, P 2, N 1 and starting value 7"
-abbrev session : List ℕ
-session = 67 ∷ 67 ∷ 83 ∷ 1 ∷ 0 ∷ 4 ∷ 2 ∷ 1 ∷ 0 ∷ 7 ∷ 0 ∷ 0 ∷ 0 ∷ 3 ∷ 0 ∷ 0 ∷ 0 ∷ 0 ∷ 0 ∷ 0 ∷ 0 ∷ 0 ∷ 0 ∷ 0 ∷ 0 ∷ 0 ∷ 0 ∷ 0 ∷ 0 ∷ 0 ∷ 0 ∷ 7 ∷ 1 ∷ 0 ∷ 0 ∷ 0 ∷ 0 ∷ 0 ∷ 0 ∷ 0 ∷ 6 ∷ 0 ∷ 0 ∷ 0 ∷ 0 ∷ 0 ∷ 0 ∷ 0 ∷ 0 ∷ 7 ∷ 1 ∷ 0 ∷ 0 ∷ 0 ∷ 0 ∷ 0 ∷ 0 ∷ 0 ∷ 1 ∷ 1 ∷ 0 ∷ 0 ∷ 0 ∷ 9 ∷ 0 ∷ 0 ∷ 0 ∷ 0 ∷ 0 ∷ 0 ∷ 0 ∷ 0 ∷ 0 ∷ 0 ∷ 0 ∷ 0 ∷ 8 ∷ 1 ∷ 0 ∷ 0 ∷ 0 ∷ 0 ∷ 0 ∷ 0 ∷ 0 ∷ 4 ∷ 1 ∷ 0 ∷ 0 ∷ 0 ∷ 0 ∷ 0 ∷ 0 ∷ 0 ∷ 3 ∷ 0 ∷ 0 ∷ 0 ∷ 0 ∷ 0 ∷ 0 ∷ 0 ∷ 0 ∷ 8 ∷ 1 ∷ 0 ∷ 0 ∷ 0 ∷ 0 ∷ 0 ∷ 0 ∷ 0 ∷ 3 ∷ 0 ∷ 0 ∷ 0 ∷ 0 ∷ 0 ∷ 0 ∷ 0 ∷ 0 ∷ 0 ∷ 0 ∷ 0 ∷ 0 ∷ 0 ∷ 0 ∷ 0 ∷ 0 ∷ 0 ∷ []
-
--- "The whole listing"
-abbrev listing : List ℕ
-listing = 52 ∷ 32 ∷ 50 ∷ 32 ∷ 49 ∷ 10 ∷ 48 ∷ 32 ∷ 51 ∷ 32 ∷ 48 ∷ 32 ∷ 48 ∷ 10 ∷ 49 ∷ 32 ∷ 48 ∷ 32 ∷ 48 ∷ 32 ∷ 55 ∷ 10 ∷ 50 ∷ 32 ∷ 55 ∷ 32 ∷ 49 ∷ 50 ∷ 32 ∷ 48 ∷ 10 ∷ 51 ∷ 32 ∷ 54 ∷ 32 ∷ 48 ∷ 32 ∷ 48 ∷ 10 ∷ 52 ∷ 32 ∷ 55 ∷ 32 ∷ 48 ∷ 32 ∷ 48 ∷ 10 ∷ 53 ∷ 32 ∷ 49 ∷ 32 ∷ 48 ∷ 32 ∷ 48 ∷ 10 ∷ 54 ∷ 32 ∷ 48 ∷ 32 ∷ 56 ∷ 32 ∷ 48 ∷ 10 ∷ 55 ∷ 32 ∷ 56 ∷ 32 ∷ 57 ∷ 32 ∷ 48 ∷ 10 ∷ 56 ∷ 32 ∷ 52 ∷ 32 ∷ 48 ∷ 32 ∷ 48 ∷ 10 ∷ 57 ∷ 32 ∷ 51 ∷ 32 ∷ 49 ∷ 51 ∷ 32 ∷ 48 ∷ 10 ∷ 49 ∷ 48 ∷ 32 ∷ 56 ∷ 32 ∷ 48 ∷ 32 ∷ 48 ∷ 10 ∷ 49 ∷ 49 ∷ 32 ∷ 51 ∷ 32 ∷ 48 ∷ 32 ∷ 48 ∷ 10 ∷ 49 ∷ 50 ∷ 32 ∷ 48 ∷ 32 ∷ 48 ∷ 32 ∷ 57 ∷ 10 ∷ 49 ∷ 51 ∷ 32 ∷ 57 ∷ 32 ∷ 48 ∷ 10 ∷ []
 
 pub whole-listing : listingOf session ≡ listing
 unfolding ruleOf ruleNumber procOf hasBoard withBoard withoutBoard hasAnother lowestBoard sliceNumber width cellByCell every inRange sizesGood currentValue cellBy first freshTable effect valueOf storeBy storesBy numberOf refuses tests guard from upTo askedBy everyBoard meets sound malformed missing offBoard seen refusals answerTo answer tableAfter tableAfterAll log isWrite acceptedWrite latestWrite le16 le32 marked values actionAt actions headRefusals bodyRefusals recordsBad bodyBad readRefusals endOf logOf acceptedIn countBelow sumBelow staleIn staleOf digitsIn digits line recordLine recordLines runListing listingOf ones onesIn trailingZeros

@@ -111,6 +111,7 @@ module _ (file m k w numbers values : List ℕ) (r : Report) (m′ k′ w′ num
       let y = readable file (cellsIn file) .0 e in
       let few : countIn file ≤ 4096 = few-records (length file - (9 + 4 * cellsIn file)) (y .recorded) in
       record {
+        not-refused = e;
         headed = y .headed-whole;
         accepted-is = s .accepted-is ∙ rw (eq-eqb (r .number) 0 ok);
         stale-is = s .stale-is ∙ rw (eq-eqb (r .number) 0 ok);

@@ -5,7 +5,6 @@ pub mod ListingLaws
 pub mod LentLaws
 pub mod Decimals
 pub mod Unique
-pub mod Fits
 pub mod Cut
 pub mod Room
 pub mod Example

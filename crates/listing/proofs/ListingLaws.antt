@@ -75,25 +75,25 @@ module _ (file : List ℕ) (from count : ℕ) (numbers values : List ℕ) (t : T
 
 -- ---- the outcome, where there is room and where there is none
 
-module _ (bytes old : List ℕ) (n : ℕ) (is : n ≡ length bytes) where
+module _ (bytes old : List ℕ) (n : ℕ) (is : n ≡ length bytes) (few : n ≤ 94232) where
   pub no-room : length old < n → Puts bytes old (record { number = 20; length = 0 }) old
-  no-room h = record { number-is = rw (lt-ltb (length old) (length bytes) (omega arith)); length-is = refl; bytes-are = refl }
+  no-room h = record { number-is = rw (lt-ltb (length old) (length bytes) (omega arith)); length-is = refl; bytes-are = refl; enough = omega arith }
 
   pub room : n ≤ length old → (out : List ℕ) → out ≡ written bytes 0 old → Puts bytes old (record { number = 0; length = n }) out
-  room h out e = record { number-is = rw (le-ltb (length old) (length bytes) (omega arith)); length-is = is; bytes-are = e ∙ in-front bytes old }
+  room h out e = record { number-is = rw (le-ltb (length old) (length bytes) (omega arith)); length-is = is; bytes-are = e ∙ in-front bytes old; enough = omega arith }
 
 module _ (file old : List ℕ) (r : Listed) (out : List ℕ) where
   pub lists-refused : (number : ℕ) → number ≡ refusalOf file → number ≢ 0 → Puts (refusedListing number) old r out → Lists file old r out
   unfolding listingOf
   lists-refused number e h p =
       let z = ne-eqb (refusalOf file) 0 (rw e at h) in
-      record { number-is = rw (z, sym e) (p .number-is); length-is = rw (z, sym e) (p .length-is); bytes = rw (z, sym e) (p .bytes-are) }
+      record { number-is = rw (z, sym e) (p .number-is); length-is = rw (z, sym e) (p .length-is); bytes = rw (z, sym e) (p .bytes-are); enough = rw (z, sym e) (p .enough) }
 
   pub lists-run : refusalOf file ≡ 0 → Puts (runListing file) old r out → Lists file old r out
   unfolding listingOf
   lists-run e p =
       let z = eq-eqb (refusalOf file) 0 e in
-      record { number-is = rw z (p .number-is); length-is = rw z (p .length-is); bytes = rw z (p .bytes-are) }
+      record { number-is = rw z (p .number-is); length-is = rw z (p .length-is); bytes = rw z (p .bytes-are); enough = rw z (p .enough) }
 
 -- ---- the one line of a refused file
 

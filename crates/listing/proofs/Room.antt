@@ -1,29 +1,25 @@
--- No listing is longer than 94,232 bytes, so `list` never answers 20 where that many are lent. Assumes nothing.
+-- The listing of a run has at most 94,232 bytes, and `list` never answers 20 where that many are lent. Assumes nothing.
 use mathlib.Core.Path.{_≡_, _∙_}
-use mathlib.Core.Bool.{Bool, true, false, cond}
 use mathlib.Core.List.{List, [], _∷_}
 use Prim.Native.Nat.{ℕ, suc, _+_, _-_, _*_, _<_, _≤_}
 use native.Mathlib.Omega.{arith}
-use native.Mathlib.Decide.{ℕ-discrete}
 use native.Mathlib.Nat.{mul-le-mul-left}
-use borrow.Author.Tests.{le-ltb, eq-eqb, ne-eqb}
-use lib.Dec.{eqb}
+use borrow.Author.Tests.{le-ltb}
 use lib.ListN.{length, length-append}
-use Rattle.protocol.specs.First.{Refusal, firstNumber}
 use Rattle.protocol.specs.Runs.{Line}
 use Rattle.protocol.proofs.SmallNumbers.{SmallLines}
 use Rattle.sessions.specs.File.{Below, ruleIn, boardsIn, cellsIn}
-use Rattle.sessions.specs.FileRefusals.{headRefusals, bodyRefusals, readRefusals, countIn}
+use Rattle.sessions.specs.FileRefusals.{countIn}
 use Rattle.sessions.specs.Run.{logOf, acceptedIn, staleOf}
 use Rattle.sessions.proofs.AcceptedLaws.{readable, few-records}
 use Rattle.sessions.proofs.RunPromises.{logged}
 use Rattle.sessions.proofs.SmallRun.{log-of-bytes, accepted-at-most, stale-at-most}
 use Rattle.listing.specs.declared.Listed.{Listed}
 use Rattle.listing.specs.Statements.{Lists}
-use Rattle.listing.specs.Listing.{recordLine, recordLines, refusedListing, runListing, refusalOf, listingOf}
+use Rattle.listing.specs.Listing.{recordLine, recordLines, runListing, refusalOf, listingOf}
 use Rattle.listing.proofs.DigitLaws.{fewer}
-use Rattle.listing.proofs.LineLaws.{length-one, length-three, length-four}
-use Rattle.listing.proofs.ListingLaws.{length-refused, length-run}
+use Rattle.listing.proofs.LineLaws.{length-three, length-four}
+use Rattle.listing.proofs.ListingLaws.{length-run}
 
 -- ---- the lines of the records
 
@@ -41,9 +37,9 @@ lines-short index (l ∷ ls) h s =
 
 -- ---- a run
 
--- the first line has up to 1 + 2 + 3 + 3 bytes, the last one 4 + 4 + 4 + 3
-run-short : (file : List ℕ) → Below 256 file → refusalOf file ≡ 0 → length (runListing file) ≤ 94232
-run-short file b e =
+-- the first line has up to 1 + 2 + 3 + 3 bytes, the last one 4 + 4 + 4 + 3: in all 9 + 4,096 x 23 + 15
+pub run-has-room : (file : List ℕ) → Below 256 file → refusalOf file ≡ 0 → length (runListing file) ≤ 94232
+run-has-room file b e =
     let y = readable file (cellsIn file) .0 e in
     let z = y .sizes in
     let few : countIn file ≤ 4096 = omega (arith, few-records (length file - (9 + 4 * cellsIn file)) (y .recorded)) in
@@ -55,38 +51,8 @@ run-short file b e =
     omega
     (arith, length-run file, logged file, fewer 0 (ruleIn file) (omega (arith, y .ruled)), fewer 1 (boardsIn file) (omega (arith, z .few-boards)), fewer 2 (cellsIn file) (omega (arith, z .few-cells)), fewer 3 (countIn file) (omega arith), fewer 3 (acceptedIn (logOf file)) (omega arith), fewer 3 (staleOf file) (omega arith))
 
--- ---- a refusal
-
-refused-short : (number : ℕ) → number ≤ 19 → length (refusedListing number) ≤ 11
-refused-short number h = omega (arith, length-refused number, length-one number, fewer 1 number (omega arith))
-
--- each of these has a number up to 19
-abbrev UpTo19 : List Refusal → Type 0
-UpTo19 [] = Unit {0}
-UpTo19 (r ∷ rs) = (r .answer .number ≤ 19) × UpTo19 rs
-
-first-up-to-19 : (rs : List Refusal) → UpTo19 rs → firstNumber rs ≤ 19
-first-up-to-19 [] u = omega arith
-first-up-to-19 (r ∷ rs) u = go (r .holds) (first-up-to-19 rs (u .1))
-  where
-    go : (b : Bool) → firstNumber rs ≤ 19 → cond b (r .answer .number) (firstNumber rs) ≤ 19
-    go true i = u .0
-    go false i = i
-
-refusal-up-to-19 : (file : List ℕ) → refusalOf file ≤ 19
-unfolding readRefusals headRefusals bodyRefusals
-refusal-up-to-19 file = first-up-to-19 (readRefusals file (cellsIn file)) (omega arith)
-
 -- ---- any file
 
--- 9 + 4,096 x 23 + 15
-pub always-room : (file : List ℕ) → Below 256 file → length (listingOf file) ≤ 94232
-unfolding listingOf
-always-room file b = go (ℕ-discrete (refusalOf file) 0)
-  where
-    go : Dec (refusalOf file ≡ 0) → length (cond (eqb (refusalOf file) 0) (runListing file) (refusedListing (refusalOf file))) ≤ 94232
-    go (yes e) = rw (eq-eqb (refusalOf file) 0 e) (run-short file b e)
-    go (no n) = rw (ne-eqb (refusalOf file) 0 n) (omega (arith, refused-short (refusalOf file) (refusal-up-to-19 file)))
-
-pub never-20 : (file old : List ℕ) (r : Listed) (out : List ℕ) → Below 256 file → 94232 ≤ length old → Lists file old r out → r .number ≡ 0
-never-20 file old r out b h s = s .number-is ∙ rw (le-ltb (length old) (length (listingOf file)) (omega (arith, always-room file b)))
+-- a refused file has one short line, so `enough` holds of every file
+pub never-20 : (file old : List ℕ) (r : Listed) (out : List ℕ) → 94232 ≤ length old → Lists file old r out → r .number ≡ 0
+never-20 file old r out h s = s .number-is ∙ rw (le-ltb (length old) (length (listingOf file)) (omega (arith, s .enough)))

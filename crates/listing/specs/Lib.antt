@@ -3,3 +3,4 @@ pub mod Decimal
 pub mod Listing
 pub mod Statements
 pub mod Code
+pub mod Example

@@ -1,22 +1,22 @@
--- `show` writes the listing and nothing behind it. Assumes nothing.
+-- `show` lends `put` a slice of 94,232 bytes, and hands on as many of them as it answers. Assumes nothing.
+use native.Mathlib.Omega.{arith}
 use mathlib.Core.Path.{sym}
 use lib.Seq.{length-take-le}
-use Rattle.listing.proofs.Fits.{listed-fits}
 use borrow.Author.Needs.{needs}
 use Rattle.output.proofs.show.Statement.{statement}
 use Rattle.output.proofs.show.Tie as tie
 
-slice-aggregate-list : tie.Need-slice-aggregate-list
-slice-aggregate-list c = search needs
+slice-aggregate-put : tie.Need-slice-aggregate-put
+slice-aggregate-put c = search needs
 
-list-requires : tie.Need-list-requires
-list-requires c κs = search needs
+put-requires : tie.Need-put-requires
+put-requires c κs = search needs
 
 array-share-prefix-out : tie.Need-array-share-prefix-out
-array-share-prefix-out c = rw (c .before .list .kept .1 .0) (listed-fits _ _ _ _ (c .before .list .ensures))
+array-share-prefix-out c = search needs
 
 slice-aggregate-write-all : tie.Need-slice-aggregate-write-all
-slice-aggregate-write-all c = sym (length-take-le _ _ (rw (c .before .before .list .kept .1 .0) (listed-fits _ _ _ _ (c .before .before .list .ensures))))
+slice-aggregate-write-all c = let p = c .before .before .put in sym (length-take-le _ _ (omega (arith, p .ensures .0, p .kept .1 .0)))
 
 write-all-requires : tie.Need-write-all-requires
 write-all-requires c κs = search needs
@@ -28,8 +28,8 @@ pub show-spec : {M : Type 1} → statement M
 show-spec =
     tie.close
     (tie.spec
-    slice-aggregate-list
-    list-requires
+    slice-aggregate-put
+    put-requires
     array-share-prefix-out
     slice-aggregate-write-all
     write-all-requires

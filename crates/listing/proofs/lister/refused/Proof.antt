@@ -16,6 +16,9 @@ use Rattle.listing.proofs.lister.refused.Tie as tie
 long : (c : tie.After-width) → c .width .result + 9 ≡ length (refusedListing (c .before .before .args .number))
 long c = omega (arith, c .width .ensures .0, length-refused (c .before .before .args .number), length-one (c .before .before .args .number))
 
+few : (c : tie.After-width) → c .width .result + 9 ≤ 94232
+few c = omega (arith, c .width .ensures .1)
+
 width-requires : tie.Need-width-requires
 width-requires c κs = search needs
 
@@ -23,7 +26,7 @@ add-length : tie.Need-add-length
 add-length c = search needs
 
 returns : tie.Need-returns
-returns c = no-room _ _ _ (long (c .before)) (c .if1 .taken)
+returns c = no-room _ _ _ (long (c .before)) (few (c .before)) (c .if1 .taken)
 
 put-word-requires : tie.Need-put-word-requires
 put-word-requires c κs = search needs
@@ -38,7 +41,7 @@ returns-2 : tie.Need-returns-2
 returns-2 c = let a = c .before .before .before .before .before .before .before .before .before .before .before .args in
     let q = c .before .before .put-one in
     let h : 8 + length (line (a .number) []) ≤ length (a .out .now) = omega (arith, c .before .before .before .before .before .before .before .before .before .width .ensures .0, length-one (a .number), c .before .before .before .before .before .before .before .before .if1 .left) in
-    room _ _ _ (long (c .before .before .before .before .before .before .before .before .before)) (omega (arith, c .before .before .before .before .before .before .before .before .if1 .left)) _ (q .ensures .1 ∙ ap (written (line (a .number) []) 8) (c .before .before .before .before .before .before .put-word .ensures) ∙ written-refused (a .number) (a .out .now) h)
+    room _ _ _ (long (c .before .before .before .before .before .before .before .before .before)) (few (c .before .before .before .before .before .before .before .before .before)) (omega (arith, c .before .before .before .before .before .before .before .before .if1 .left)) _ (q .ensures .1 ∙ ap (written (line (a .number) []) 8) (c .before .before .before .before .before .before .put-word .ensures) ∙ written-refused (a .number) (a .out .now) h)
 
 pub refused-spec : {M : Type 1} → statement M
 refused-spec =

@@ -8,6 +8,7 @@ use Rattle.sessions.proofs.BytesLaws.{sizes-are}
 use Rattle.listing.specs.Listing.{runListing}
 use Rattle.listing.specs.Code.{Told}
 use Rattle.listing.proofs.ListingLaws.{no-room, room, long-run, put-run}
+use Rattle.listing.proofs.Room.{run-has-room}
 use borrow.Author.Needs.{needs}
 use Rattle.listing.proofs.lister.told.Statement.{statement}
 use Rattle.listing.proofs.lister.told.Tie as tie
@@ -22,6 +23,10 @@ told c = rw (sizes c .1) (c .before .before .before .before .before .before .pre
 -- how long the listing is
 long : (c : tie.After-width-three2) → c .before .before .width-three .result + c .before .records-width .result + c .width-three2 .result ≡ length (runListing (c .before .before .before .before .before .before .before .before .before .before .args .file .now))
 long c = let p = c .before .before .before .before .before .before .before .before .before .before .pre in long-run _ _ _ _ _ (sizes (c .before .before .before .before)) (p .accepted-is) (p .stale-is) _ _ _ (c .before .before .width-three .ensures .0) (c .before .records-width .ensures .0) (c .width-three2 .ensures .0)
+
+-- the file is a slice of bytes, so its listing is short enough
+few : (c : tie.After-width-three2) → c .before .before .width-three .result + c .before .records-width .result + c .width-three2 .result ≤ 94232
+few c = omega (arith, long c, run-has-room (c .before .before .before .before .before .before .before .before .before .before .args .file .now) (λ i h. omega (arith, c .before .before .before .before .before .shared-slice-known4 .given i)) (c .before .before .before .before .before .before .before .before .before .before .pre .not-refused))
 
 shared-slice-read-rule : tie.Need-shared-slice-read-rule
 shared-slice-read-rule c = search needs
@@ -57,7 +62,7 @@ add-length-2 : tie.Need-add-length-2
 add-length-2 c = search needs
 
 returns : tie.Need-returns
-returns c = no-room _ _ _ (long (c .before)) (c .if1 .taken)
+returns c = no-room _ _ _ (long (c .before)) (few (c .before)) (c .if1 .taken)
 
 put-three-requires : tie.Need-put-three-requires
 put-three-requires c κs = search needs
@@ -80,7 +85,7 @@ returns-2 c = let a = c .before .before .before .before .before .before .before 
     let z = c .before .before .put-three2 in
     let n = long (c .before .before .before .before .before .before .before .before .before .before .before .before .before) in
     let h : length (runListing (a .file .now)) ≤ length (a .out .now) = omega (arith, n, c .before .before .before .before .before .before .before .before .before .before .before .before .if1 .left) in
-    room _ _ _ n (omega (arith, c .before .before .before .before .before .before .before .before .before .before .before .before .if1 .left)) _ (put-run _ _ _ _ _ (sizes (c .before .before .before .before .before .before .before .before .before .before .before .before .before .before .before .before .before)) (p .accepted-is) (p .stale-is) _ _ _ _ _ _ h (x .ensures .0) (x .ensures .1) (y .ensures .0) (y .ensures .1) (z .ensures .1))
+    room _ _ _ n (few (c .before .before .before .before .before .before .before .before .before .before .before .before .before)) (omega (arith, c .before .before .before .before .before .before .before .before .before .before .before .before .if1 .left)) _ (put-run _ _ _ _ _ (sizes (c .before .before .before .before .before .before .before .before .before .before .before .before .before .before .before .before .before)) (p .accepted-is) (p .stale-is) _ _ _ _ _ _ h (x .ensures .0) (x .ensures .1) (y .ensures .0) (y .ensures .1) (z .ensures .1))
 
 pub told-spec : {M : Type 1} → statement M
 told-spec =
