@@ -1,6 +1,5 @@
--- Document 01's 130-byte session and its whole listing, and the listing of an empty file, by computing. Assumes nothing.
+-- Document 01's 130-byte session has the listing that is printed there, by computing. Assumes nothing.
 use mathlib.Core.Path.{_≡_, refl}
-use mathlib.Core.List.{[], _∷_}
 use lib.Count.{ones, onesIn, trailingZeros}
 use Rattle.protocol.specs.Names.{ruleOf, ruleNumber, procOf}
 use Rattle.protocol.specs.Masks.{hasBoard, withBoard, withoutBoard, hasAnother, lowestBoard}
@@ -18,12 +17,7 @@ use Rattle.sessions.specs.FileRefusals.{headRefusals, bodyRefusals, recordsBad,
 use Rattle.sessions.specs.Run.{endOf, logOf, acceptedIn, countBelow, sumBelow, staleIn, staleOf}
 use Rattle.listing.specs.Decimal.{digitsIn, digits}
 use Rattle.listing.specs.Example.{session, listing}
-use Rattle.listing.specs.Listing.{line, recordLine, recordLines, refusedListing, runListing, listingOf}
-
--- "refused 19"
-pub empty-file : listingOf [] ≡ 114 ∷ 101 ∷ 102 ∷ 117 ∷ 115 ∷ 101 ∷ 100 ∷ 32 ∷ 49 ∷ 57 ∷ 10 ∷ []
-unfolding listingOf refusedListing readRefusals headRefusals line digits digitsIn
-empty-file = refl
+use Rattle.listing.specs.Listing.{line, recordLine, recordLines, runListing, listingOf}
 
 pub whole-listing : listingOf session ≡ listing
 unfolding ruleOf ruleNumber procOf hasBoard withBoard withoutBoard hasAnother lowestBoard sliceNumber width cellByCell every inRange sizesGood currentValue cellBy first freshTable effect valueOf storeBy storesBy numberOf refuses tests guard from upTo askedBy everyBoard meets sound malformed missing offBoard seen refusals answerTo answer tableAfter tableAfterAll log isWrite acceptedWrite latestWrite le16 le32 marked values actionAt actions headRefusals bodyRefusals recordsBad bodyBad readRefusals endOf logOf acceptedIn countBelow sumBelow staleIn staleOf digitsIn digits line recordLine recordLines runListing listingOf ones onesIn trailingZeros

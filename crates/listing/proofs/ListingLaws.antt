@@ -11,13 +11,12 @@ use lib.Seq.{take-suc, length-take-le, take-length}
 use Rattle.protocol.specs.Runs.{Line}
 use Rattle.sessions.specs.Written.{written}
 use Rattle.sessions.specs.File.{ruleIn, boardsIn, cellsIn}
-use Rattle.sessions.specs.FileRefusals.{countIn}
 use Rattle.sessions.specs.Run.{logOf, noLine, lineOfRecord, acceptedIn, staleOf}
 use Rattle.sessions.proofs.WrittenLaws.{written-more, in-front}
-use Rattle.listing.specs.Listing.{line, recordLine, recordLines, refusedWord, refusedListing, runListing, refusalOf, listingOf}
-use Rattle.listing.specs.Code.{Told, Puts}
+use Rattle.listing.specs.Listing.{firstLine, lastLine, line, recordLine, recordLines, refusedWord, refusedListing, runListing, refusalOf, listingOf}
+use Rattle.listing.specs.Code.{Told}
 use Rattle.listing.specs.declared.Listed.{Listed}
-use Rattle.listing.specs.Statements.{Lists}
+use Rattle.listing.specs.Statements.{Puts, Lists}
 
 -- ---- the lines of the records
 
@@ -85,15 +84,11 @@ module _ (bytes old : List ℕ) (n : ℕ) (is : n ≡ length bytes) (few : n ≤
 module _ (file old : List ℕ) (r : Listed) (out : List ℕ) where
   pub lists-refused : (number : ℕ) → number ≡ refusalOf file → number ≢ 0 → Puts (refusedListing number) old r out → Lists file old r out
   unfolding listingOf
-  lists-refused number e h p =
-      let z = ne-eqb (refusalOf file) 0 (rw e at h) in
-      record { number-is = rw (z, sym e) (p .number-is); length-is = rw (z, sym e) (p .length-is); bytes = rw (z, sym e) (p .bytes-are); enough = rw (z, sym e) (p .enough) }
+  lists-refused number e h p = rw (ne-eqb (refusalOf file) 0 (rw e at h), sym e) p
 
   pub lists-run : refusalOf file ≡ 0 → Puts (runListing file) old r out → Lists file old r out
   unfolding listingOf
-  lists-run e p =
-      let z = eq-eqb (refusalOf file) 0 e in
-      record { number-is = rw z (p .number-is); length-is = rw z (p .length-is); bytes = rw z (p .bytes-are); enough = rw z (p .enough) }
+  lists-run e p = rw (eq-eqb (refusalOf file) 0 e) p
 
 -- ---- the one line of a refused file
 
@@ -109,28 +104,22 @@ written-refused number old h = written-more (refusedWord ++ (32 ∷ [])) (line n
 -- ---- the lines of a run, with the first line's and the last line's numbers
 
 module _ (file : List ℕ) where
-  abbrev pub firstLine : List ℕ
-  firstLine = line (ruleIn file) (boardsIn file ∷ cellsIn file ∷ [])
-
-  abbrev pub lastLine : List ℕ
-  lastLine = line (countIn file) (acceptedIn (logOf file) ∷ staleOf file ∷ [])
-
-  pub length-run : length (runListing file) ≡ length firstLine + length (recordLines 0 (logOf file)) + length lastLine
+  pub length-run : length (runListing file) ≡ length (firstLine file) + length (recordLines 0 (logOf file)) + length (lastLine file)
   unfolding runListing
-  length-run = omega (arith, length-append firstLine (recordLines 0 (logOf file) ++ lastLine), length-append (recordLines 0 (logOf file)) lastLine)
+  length-run = omega (arith, length-append (firstLine file) (recordLines 0 (logOf file) ++ (lastLine file)), length-append (recordLines 0 (logOf file)) (lastLine file))
 
-  pub written-run : (first last : ℕ) (old : List ℕ) → first ≡ length firstLine → last ≡ first + length (recordLines 0 (logOf file)) → length (runListing file) ≤ length old →
-      written lastLine last (written (recordLines 0 (logOf file)) first (written firstLine 0 old)) ≡ written (runListing file) 0 old
+  pub written-run : (first last : ℕ) (old : List ℕ) → first ≡ length (firstLine file) → last ≡ first + length (recordLines 0 (logOf file)) → length (runListing file) ≤ length old →
+      written (lastLine file) last (written (recordLines 0 (logOf file)) first (written (firstLine file) 0 old)) ≡ written (runListing file) 0 old
   unfolding runListing
   written-run first last old e d h =
       let ls = recordLines 0 (logOf file) in
-      let a : first ≡ 0 + length firstLine = omega arith in
-      let b : last ≡ 0 + length (firstLine ++ ls) = omega (arith, length-append firstLine ls) in
-      ap (λ (k : ℕ). written lastLine last (written ls k (written firstLine 0 old))) a
-      ∙ ap (written lastLine last) (written-more firstLine ls 0 old (omega (arith, length-run)))
-      ∙ ap (λ (k : ℕ). written lastLine k (written (firstLine ++ ls) 0 old)) b
-      ∙ written-more (firstLine ++ ls) lastLine 0 old (omega (arith, length-run, length-append firstLine ls))
-      ∙ ap (λ (l : List ℕ). written l 0 old) (append-assoc firstLine ls lastLine)
+      let a : first ≡ 0 + length (firstLine file) = omega arith in
+      let b : last ≡ 0 + length ((firstLine file) ++ ls) = omega (arith, length-append (firstLine file) ls) in
+      ap (λ (k : ℕ). written (lastLine file) last (written ls k (written (firstLine file) 0 old))) a
+      ∙ ap (written (lastLine file) last) (written-more (firstLine file) ls 0 old (omega (arith, length-run)))
+      ∙ ap (λ (k : ℕ). written (lastLine file) k (written ((firstLine file) ++ ls) 0 old)) b
+      ∙ written-more ((firstLine file) ++ ls) (lastLine file) 0 old (omega (arith, length-run, length-append (firstLine file) ls))
+      ∙ ap (λ (l : List ℕ). written l 0 old) (append-assoc (firstLine file) ls (lastLine file))
 
   module _ (boards cells accepted stale : ℕ) (s : (boards ≡ boardsIn file) × (cells ≡ cellsIn file)) (a : accepted ≡ acceptedIn (logOf file)) (z : stale ≡ staleOf file) where
     -- the records, as the code counts them
@@ -146,5 +135,5 @@ module _ (file : List ℕ) where
         last ≡ first + length (recordLines 0 (logOf file)) → out₂ ≡ written (recordLines 0 (logOf file)) first out₁ →
         out₃ ≡ written (line count (accepted ∷ stale ∷ [])) last out₂ → out₃ ≡ written (runListing file) 0 old
     put-run first last old out₁ out₂ out₃ h f p l q r =
-        let f′ : first ≡ length firstLine = f ∙ rw (s .0, s .1) (omega arith) in
+        let f′ : first ≡ length (firstLine file) = f ∙ rw (s .0, s .1) (omega arith) in
         r ∙ rw (q, p, s .0, s .1, a, z) (written-run first last old f′ l h)

@@ -1,17 +1,14 @@
 -- What the private functions ask and answer. Assumes nothing.
 use mathlib.Core.Path.{_≡_}
-use mathlib.Core.Bool.{true, cond}
-use mathlib.Core.List.{List, _++_}
+use mathlib.Core.Bool.{true}
+use mathlib.Core.List.{List}
 use Prim.Native.Nat.{ℕ, _+_, _*_, _<_, _≤_}
-use lib.Dec.{ltb}
-use lib.ListN.{length, getD, drop}
+use lib.ListN.{length, getD}
 use Rattle.protocol.specs.Slices.{Table, inRange, sizesGood}
 use Rattle.sessions.specs.File.{boardsIn, cellsIn}
 use Rattle.sessions.specs.FileRefusals.{countIn}
 use Rattle.sessions.specs.Run.{logOf, lineOfRecord, acceptedIn, staleOf}
-use Rattle.sessions.specs.Statements.{accepting}
 use Rattle.listing.specs.Listing.{refusalOf}
-use Rattle.listing.specs.declared.Listed.{Listed}
 
 -- two slices tell the answers of a file's records; the records begin at `from`, and there are `count` of them
 pub record Told (file : List ℕ) (from count : ℕ) (numbers values : List ℕ) : Type 0 where
@@ -32,14 +29,6 @@ pub record RunTold (file numbers values : List ℕ) (accepted stale : ℕ) : Typ
   pub accepted-is : accepted ≡ acceptedIn (logOf file)
   pub stale-is : stale ≡ staleOf file
   pub told : Told file (9 + 4 * cellsIn file) (countIn file) numbers values
-
--- some bytes, at most 94,232, are put at the start of a slice, and nothing behind them is changed; where it is too short the number is 20, and
--- nothing is changed
-pub record Puts (bytes old : List ℕ) (r : Listed) (out : List ℕ) : Type 0 where
-  pub number-is : r .number ≡ cond (ltb (length old) (length bytes)) 20 0
-  pub length-is : r .length ≡ accepting (r .number) (length bytes) 0
-  pub bytes-are : out ≡ accepting (r .number) (bytes ++ drop (length bytes) old) old
-  pub enough : length bytes ≤ 94232
 
 -- as many boards and cells as are lent: those of the file, where it has any
 pub record Lent (file : List ℕ) (boards cells : ℕ) : Type 0 where

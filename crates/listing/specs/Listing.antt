@@ -32,9 +32,16 @@ refusedWord = 114 ∷ 101 ∷ 102 ∷ 117 ∷ 115 ∷ 101 ∷ 100 ∷ []
 unfoldable pub refusedListing : (number : ℕ) → List ℕ
 refusedListing number = (refusedWord ++ (32 ∷ [])) ++ line number []
 
--- "First line: rule, P, N. Then for each record .. Last line: records, accepted, stale"
+-- "First line: rule, P, N"
+abbrev pub firstLine : (file : List ℕ) → List ℕ
+firstLine file = line (ruleIn file) (boardsIn file ∷ cellsIn file ∷ [])
+
+-- "Last line: records, accepted, stale"
+abbrev pub lastLine : (file : List ℕ) → List ℕ
+lastLine file = line (countIn file) (acceptedIn (logOf file) ∷ staleOf file ∷ [])
+
 unfoldable pub runListing : (file : List ℕ) → List ℕ
-runListing file = line (ruleIn file) (boardsIn file ∷ cellsIn file ∷ []) ++ (recordLines 0 (logOf file) ++ line (countIn file) (acceptedIn (logOf file) ∷ staleOf file ∷ []))
+runListing file = firstLine file ++ (recordLines 0 (logOf file) ++ lastLine file)
 
 -- the reader's order, with the right number of places lent
 abbrev pub refusalOf : (file : List ℕ) → ℕ

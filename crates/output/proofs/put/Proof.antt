@@ -1,6 +1,6 @@
 -- `put` puts the whole listing, because 94,232 bytes are always enough. Assumes nothing.
 use native.Mathlib.Omega.{arith}
-use mathlib.Core.Path.{_≡_, ap, _∙_}
+use mathlib.Core.Path.{_≡_, _∙_}
 use mathlib.Core.List.{List}
 use Prim.Native.Nat.{ℕ, _≤_}
 use lib.ListN.{length, take, drop}
@@ -18,7 +18,7 @@ in-front : (file old : List ℕ) (r : Listed) (out : List ℕ) → 94232 ≤ len
 in-front file old r out h s =
     let n = never-20 file old r out h s in
     let l : r .length ≡ length (listingOf file) = s .length-is ∙ rw n in
-    (omega (arith, s .enough), rw (l, s .bytes, n) (take-append-seam (listingOf file) (drop (length (listingOf file)) old)))
+    (omega (arith, s .enough), rw (l, s .bytes-are, n) (take-append-seam (listingOf file) (drop (length (listingOf file)) old)))
 
 list-requires : tie.Need-list-requires
 list-requires c κs = search needs
