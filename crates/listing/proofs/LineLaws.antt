@@ -35,7 +35,7 @@ pub length-one : (a : ℕ) → length (line a []) ≡ length (digits a) + 1
 unfolding line
 length-one a = length-number a 10
 
-pub length-two : (a b : ℕ) → length (line a (b ∷ [])) ≡ length (digits a) + length (digits b) + 2
+length-two : (a b : ℕ) → length (line a (b ∷ [])) ≡ length (digits a) + length (digits b) + 2
 length-two a b = omega (arith, length-next a b [], length-number a 32, length-one b)
 
 pub length-three : (a b c : ℕ) → length (line a (b ∷ c ∷ [])) ≡ length (digits a) + length (digits b) + length (digits c) + 3

@@ -49,7 +49,7 @@ module _ (file : List ℕ) (from count : ℕ) (numbers values : List ℕ) (t : T
     abbrev pub next : List ℕ
     next = line i (getD file (from + 9 * i) 0 ∷ getD numbers i 0 ∷ getD values i 0 ∷ [])
 
-    pub up-to-more : upTo file (i + 1) ≡ upTo file i ++ next
+    up-to-more : upTo file (i + 1) ≡ upTo file i ++ next
     unfolding upTo recordLine lineOfRecord
     up-to-more =
         let inside : i < length (logOf file) = omega (arith, t .lines) in
@@ -108,7 +108,7 @@ module _ (file : List ℕ) where
   unfolding runListing
   length-run = omega (arith, length-append (firstLine file) (recordLines 0 (logOf file) ++ (lastLine file)), length-append (recordLines 0 (logOf file)) (lastLine file))
 
-  pub written-run : (first last : ℕ) (old : List ℕ) → first ≡ length (firstLine file) → last ≡ first + length (recordLines 0 (logOf file)) → length (runListing file) ≤ length old →
+  written-run : (first last : ℕ) (old : List ℕ) → first ≡ length (firstLine file) → last ≡ first + length (recordLines 0 (logOf file)) → length (runListing file) ≤ length old →
       written (lastLine file) last (written (recordLines 0 (logOf file)) first (written (firstLine file) 0 old)) ≡ written (runListing file) 0 old
   unfolding runListing
   written-run first last old e d h =

@@ -30,7 +30,7 @@ fn put_word(out: &mut [u8])
 }
 
 // The one line of a refused file.
-fn refused(number: u8, out: &mut [u8]) -> Listed
+fn list_refused(number: u8, out: &mut [u8]) -> Listed
     ensures { λ r. ⌜ Puts (refusedListing number) (now (out .entry)) r (now (out .exit)) ⌝ }
 {
     let length = decimal::width(number as usize) + 9;
@@ -49,7 +49,7 @@ fn refused(number: u8, out: &mut [u8]) -> Listed
 }
 
 // The lines of a file that is run.
-fn told(
+fn list_run(
     file: &[u8],
     numbers: &[u8],
     values: &[u32],
@@ -97,7 +97,7 @@ pub fn list_with(
 {
     let report = sessions::run(file, main, copies, masks, numbers, values);
     if report.number != protocol::ACCEPTED {
-        return refused(report.number, out);
+        return list_refused(report.number, out);
     }
-    told(file, numbers, values, report.accepted, report.stale, out)
+    list_run(file, numbers, values, report.accepted, report.stale, out)
 }

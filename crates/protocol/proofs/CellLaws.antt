@@ -11,8 +11,7 @@ use lib.Dec.{eqb, ltb}
 use lib.ListN.{length, getD, set, length-set}
 use lib.Seq.{getD-set-same, getD-set-other, ext-getD}
 use borrow.Author.Tests.{eq-eqb, ne-eqb, eqb-true, ltb-true, lt-ltb, le-ltb}
-use Rattle.protocol.specs.Slices.{sliceNumber}
-use Rattle.protocol.specs.Slices.{Slice, main, copies, masks, slices, Table, Places, width, every, inRange, sizesGood}
+use Rattle.protocol.specs.Slices.{sliceNumber, Slice, main, copies, masks, slices, Table, Places, width, every, inRange, sizesGood}
 use Rattle.protocol.specs.Cell.{Cell, cellBy}
 use Rattle.protocol.specs.Effects.{Store, put, storeBy, storesBy}
 use Rattle.protocol.proofs.Booleans.{and-left, and-right, every-at}

@@ -3,11 +3,9 @@ use mathlib.Core.Path.{_≡_, refl}
 use mathlib.Core.List.{map}
 use lib.ListN.{length}
 use lib.Count.{ones, onesIn, trailingZeros}
-use Rattle.protocol.specs.Slices.{sliceNumber}
-use Rattle.protocol.specs.Names.{ruleNumber}
-use Rattle.protocol.specs.Names.{ruleOf, procOf}
+use Rattle.protocol.specs.Slices.{sliceNumber, width, cellByCell, every, inRange, sizesGood}
+use Rattle.protocol.specs.Names.{ruleNumber, ruleOf, procOf}
 use Rattle.protocol.specs.Masks.{hasBoard, withBoard, withoutBoard, hasAnother, lowestBoard}
-use Rattle.protocol.specs.Slices.{width, cellByCell, every, inRange, sizesGood}
 use Rattle.protocol.specs.Cell.{cellBy, currentValue}
 use Rattle.protocol.specs.Soundness.{from, upTo, askedBy, everyBoard, meets, sound}
 use Rattle.protocol.specs.First.{first}

@@ -5,8 +5,7 @@ use mathlib.Core.List.{List, [], _∷_}
 use mathlib.Core.Option.{some, none}
 use Prim.Native.Nat.{ℕ, _<_, _≤_}
 use lib.Dec.{eqb, leb}
-use Rattle.protocol.specs.Names.{ruleNumber}
-use Rattle.protocol.specs.Names.{Rule}
+use Rattle.protocol.specs.Names.{ruleNumber, Rule}
 use Rattle.protocol.specs.Masks.{hasBoard}
 use Rattle.protocol.specs.Cell.{Cell, mainValue, copyAt, liveMask, dirtyMask, lockMask}
 use Rattle.protocol.specs.First.{Refusal}

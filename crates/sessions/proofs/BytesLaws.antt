@@ -19,7 +19,7 @@ sizes-are file r s h = let e = le-ltb (length file) 9 h in (s .boards-is ∙ rw 
 pub fill-more : (xs : List ℕ) (v : ℕ) (old : List ℕ) (n : ℕ) → length xs ≡ n → n < length old → set (xs ++ drop n old) n v ≡ (xs ++ (v ∷ [])) ++ drop (n + 1) old
 fill-more xs v old n e h = rw (drop-cons old n 0, set-at xs (getD old n 0) (drop (suc n) old) v n, add-one) (sym (append-snoc xs v (drop (suc n) old)))
 
-pub length-values : (s : List ℕ) (at n : ℕ) → length (values s at n) ≡ n
+length-values : (s : List ℕ) (at n : ℕ) → length (values s at n) ≡ n
 unfolding values
 length-values s at zero = refl
 length-values s at (suc n) = ap suc (length-values s (at + 4) n)

@@ -26,7 +26,7 @@ same-file file b e =
     ap (λ (t : List ℕ). headed (ruleIn file) (boardsIn file) (cellsIn file) ++ t) (body-of file b (r .valued)) ∙ head-of file b (r .headed-whole) (r .has-mark) (r .version-1)
 
 -- what a file was read as is not refused to a writer that has room
-pub read-is-writable : (file : List ℕ) (room : ℕ) → firstNumber (readRefusals file (cellsIn file)) ≡ 0 → length file ≤ room →
+read-is-writable : (file : List ℕ) (room : ℕ) → firstNumber (readRefusals file (cellsIn file)) ≡ 0 → length file ≤ room →
     firstNumber (writeRefusals (ruleIn file) (boardsIn file) (cellsIn file) (length (startingIn file)) (length (recordsIn file)) room) ≡ 0
 read-is-writable file room e h =
     let r = readable file (cellsIn file) .0 e in

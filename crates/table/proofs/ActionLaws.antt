@@ -27,7 +27,7 @@ use Rattle.table.proofs.ReadyLaws.{ready, room, copy-is, as-live, as-di
 use Rattle.table.proofs.SoundLaws.{sound-below}
 
 -- the boards of an action that is well formed and on the table: an unused `to` is 0
-pub boards-in : (boards : ℕ) (a : Action) → 1 ≤ boards → malformed a ≡ false → offBoard boards a ≡ false → (a .board < boards) × (a .to < boards)
+boards-in : (boards : ℕ) (a : Action) → 1 ≤ boards → malformed a ≡ false → offBoard boards a ≡ false → (a .board < boards) × (a .to < boards)
 boards-in boards a some f o = (home (decLt (a .board) boards), there (ℕ-discrete (a .code) 5) (ℕ-discrete (a .to) 0) (decLt (a .to) boards))
   where
     home : Dec (a .board < boards) → a .board < boards

@@ -38,7 +38,7 @@ module _ (rule boards cells : ℕ) (m k w : List ℕ) where
   unfolding lowestFrom
   left-end cell l = let z : cells - cell ≡ 0 = omega arith in rw z
 
-  pub left-start : lowestUnsound rule boards cells (tableOf m k w) ≡ leftFrom 0
+  left-start : lowestUnsound rule boards cells (tableOf m k w) ≡ leftFrom 0
   unfolding lowestUnsound
   left-start = let z : cells - 0 ≡ cells = omega arith in rw z
 

@@ -90,7 +90,7 @@ module _ (rule P : ℕ) (h : rule ≤ 4) (x : Cell) where
     met : (c : Condition) → from c ≤ rule → rule ≤ upTo c → meets P x c ≡ true
     met c l u = of-sound (ruleOf rule) P x s c (asked rule h c l u)
 
-    pub sound-masks : masksOk ≡ true
+    sound-masks : masksOk ≡ true
     unfolding masksSound meets from upTo
     sound-masks =
         and-both (bits && unlocked && one-dirty) one-lock
@@ -99,7 +99,7 @@ module _ (rule P : ℕ) (h : rule ≤ 4) (x : Cell) where
         (only-from rule 1 (leb (ones (dirtyMask x)) 1) (λ l. met oneDirty l h)))
         (only-from rule 3 (leb (ones (lockMask x)) 1) (λ l. met oneLock l h))
 
-    pub sound-board : (p : ℕ) → p < P → boardOk p ≡ true
+    sound-board : (p : ℕ) → p < P → boardOk p ≡ true
     unfolding boardSound meets from upTo
     sound-board p l =
         and-both (blank p && dirty-live p && (ltb rule 2 || fresh-copy p) && (ltb rule 3 || locked-only p)) (ltb rule 4 || dirty-locked p)
@@ -110,7 +110,7 @@ module _ (rule P : ℕ) (h : rule ≤ 4) (x : Cell) where
         (only-from rule 3 (locked-only p) (λ r. board-at P locked-only (met lockedIsOnly r h) p l)))
         (only-from rule 4 (dirty-locked p) (λ r. board-at P dirty-locked (met dirtyIsLocked r h) p l))
 
-  pub parts-sound : masksOk ≡ true → ((p : ℕ) → p < P → boardOk p ≡ true) → sound (ruleOf rule) P x ≡ true
+  parts-sound : masksOk ≡ true → ((p : ℕ) → p < P → boardOk p ≡ true) → sound (ruleOf rule) P x ≡ true
   unfolding masksSound boardSound
   parts-sound m b = sound-of (ruleOf rule) P x (λ c a. go c (asks-from rule h c a) (asks-up-to rule h c a))
     where

@@ -15,8 +15,8 @@ alike c = let p = c .before .before .before .before .before .before .before .bef
 run-requires : tie.Need-run-requires
 run-requires c κs = search needs
 
-refused-requires : tie.Need-refused-requires
-refused-requires c κs = search needs
+list-refused-requires : tie.Need-list-refused-requires
+list-refused-requires c κs = search needs
 
 same-length : tie.Need-same-length
 same-length c = search needs
@@ -37,10 +37,10 @@ same-length-6 : tie.Need-same-length-6
 same-length-6 c = search needs
 
 returns : tie.Need-returns
-returns c = lists-refused _ _ _ _ _ (alike (c .before .before .before .before .before .before .before .before .before .before .before .before .before .before .before .before)) (c .before .before .before .before .if1 .taken) (c .before .before .refused .ensures)
+returns c = lists-refused _ _ _ _ _ (alike (c .before .before .before .before .before .before .before .before .before .before .before .before .before .before .before .before)) (c .before .before .before .before .if1 .taken) (c .before .before .list-refused .ensures)
 
-told-requires : tie.Need-told-requires
-told-requires c κs = let r = c .before .before .before .before .before .before .before .before .before .before .before .before .before .before .before .run in
+list-run-requires : tie.Need-list-run-requires
+list-run-requires c κs = let r = c .before .before .before .before .before .before .before .before .before .before .before .before .before .before .before .run in
     let p = c .before .before .before .before .before .before .before .before .before .before .before .before .before .before .before .before .before .before .before .before .before .before .before .before .before .before .before .before .pre in
     run-told _ _ _ _ _ _ _ _ _ _ _ _ (r .ensures) (c .before .before .before .if1 .left) (sym (alike (c .before .before .before .before .before .before .before .before .before .before .before .before .before .before .before)) ∙ c .before .before .before .if1 .left) (omega (arith, r .kept .1 .1 .1 .1 .0, p .1)) (omega (arith, r .kept .1 .1 .1 .1 .1 .0, p .2))
 
@@ -63,14 +63,14 @@ same-length-12 : tie.Need-same-length-12
 same-length-12 c = search needs
 
 returns-2 : tie.Need-returns-2
-returns-2 c = lists-run _ _ _ _ (sym (alike (c .before .before .before .before .before .before .before .before .before .before .before .before .before .before .before .before .before .before)) ∙ c .before .before .before .before .before .before .if1 .left) (c .before .before .told .ensures)
+returns-2 c = lists-run _ _ _ _ (sym (alike (c .before .before .before .before .before .before .before .before .before .before .before .before .before .before .before .before .before .before)) ∙ c .before .before .before .before .before .before .if1 .left) (c .before .before .list-run .ensures)
 
 pub list-with-spec : {M : Type 1} → statement M
 list-with-spec =
     tie.close
     (tie.spec
     run-requires
-    refused-requires
+    list-refused-requires
     same-length
     same-length-2
     same-length-3
@@ -78,7 +78,7 @@ list-with-spec =
     same-length-5
     same-length-6
     returns
-    told-requires
+    list-run-requires
     same-length-7
     same-length-8
     same-length-9

@@ -1,4 +1,4 @@
--- `told` puts the first line, the lines of the records and the last line, where there is room. Assumes nothing.
+-- `list_run` puts the first line, the lines of the records and the last line, where there is room. Assumes nothing.
 use native.Mathlib.Omega.{arith}
 use mathlib.Core.Path.{_≡_}
 use lib.ListN.{length}
@@ -10,8 +10,8 @@ use Rattle.listing.specs.Code.{Told}
 use Rattle.listing.proofs.ListingLaws.{no-room, room, long-run, put-run}
 use Rattle.listing.proofs.Room.{run-has-room}
 use borrow.Author.Needs.{needs}
-use Rattle.listing.proofs.lister.told.Statement.{statement}
-use Rattle.listing.proofs.lister.told.Tie as tie
+use Rattle.listing.proofs.lister.list_run.Statement.{statement}
+use Rattle.listing.proofs.lister.list_run.Tie as tie
 
 sizes : (c : tie.After-sizes-in) → let file = c .before .before .before .before .before .before .args .file .now in (c .sizes-in .result .boards ≡ boardsIn file) × (c .sizes-in .result .cells ≡ cellsIn file)
 sizes c = sizes-are _ _ (c .sizes-in .ensures) (c .before .before .before .before .before .before .pre .headed)
@@ -87,8 +87,8 @@ returns-2 c = let a = c .before .before .before .before .before .before .before 
     let h : length (runListing (a .file .now)) ≤ length (a .out .now) = omega (arith, n, c .before .before .before .before .before .before .before .before .before .before .before .before .if1 .left) in
     room _ _ _ n (few (c .before .before .before .before .before .before .before .before .before .before .before .before .before)) (omega (arith, c .before .before .before .before .before .before .before .before .before .before .before .before .if1 .left)) _ (put-run _ _ _ _ _ (sizes (c .before .before .before .before .before .before .before .before .before .before .before .before .before .before .before .before .before)) (p .accepted-is) (p .stale-is) _ _ _ _ _ _ h (x .ensures .0) (x .ensures .1) (y .ensures .0) (y .ensures .1) (z .ensures .1))
 
-pub told-spec : {M : Type 1} → statement M
-told-spec =
+pub list-run-spec : {M : Type 1} → statement M
+list-run-spec =
     tie.close
     (tie.spec
     shared-slice-read-rule

@@ -1,4 +1,4 @@
--- `refused` puts the word and the number, where there is room. Assumes nothing.
+-- `list_refused` puts the word and the number, where there is room. Assumes nothing.
 use native.Mathlib.Omega.{arith}
 use mathlib.Core.Path.{_≡_, ap, _∙_}
 use mathlib.Core.List.{[]}
@@ -9,8 +9,8 @@ use Rattle.listing.specs.Listing.{line, refusedListing}
 use Rattle.listing.proofs.LineLaws.{length-one}
 use Rattle.listing.proofs.ListingLaws.{no-room, room, length-refused, written-refused}
 use borrow.Author.Needs.{needs}
-use Rattle.listing.proofs.lister.refused.Statement.{statement}
-use Rattle.listing.proofs.lister.refused.Tie as tie
+use Rattle.listing.proofs.lister.list_refused.Statement.{statement}
+use Rattle.listing.proofs.lister.list_refused.Tie as tie
 
 -- how long the line is
 long : (c : tie.After-width) → c .width .result + 9 ≡ length (refusedListing (c .before .before .args .number))
@@ -43,8 +43,8 @@ returns-2 c = let a = c .before .before .before .before .before .before .before 
     let h : 8 + length (line (a .number) []) ≤ length (a .out .now) = omega (arith, c .before .before .before .before .before .before .before .before .before .width .ensures .0, length-one (a .number), c .before .before .before .before .before .before .before .before .if1 .left) in
     room _ _ _ (long (c .before .before .before .before .before .before .before .before .before)) (few (c .before .before .before .before .before .before .before .before .before)) (omega (arith, c .before .before .before .before .before .before .before .before .if1 .left)) _ (q .ensures .1 ∙ ap (written (line (a .number) []) 8) (c .before .before .before .before .before .before .put-word .ensures) ∙ written-refused (a .number) (a .out .now) h)
 
-pub refused-spec : {M : Type 1} → statement M
-refused-spec =
+pub list-refused-spec : {M : Type 1} → statement M
+list-refused-spec =
     tie.close
     (tie.spec
     width-requires
