@@ -23,7 +23,7 @@ use Rattle.sessions.specs.declared.Report.{Report}
 use Rattle.sessions.specs.declared.Sizes.{Sizes}
 use Rattle.sessions.proofs.AcceptedLaws.{readable, few-records}
 use Rattle.sessions.proofs.BytesLaws.{sizes-are}
-use Rattle.sessions.proofs.RunPromises.{logged, its-action, in-slice}
+use Rattle.sessions.proofs.LogLaws.{logged, its-action, in-slice}
 use Rattle.listing.specs.Listing.{refusalOf}
 use Rattle.listing.specs.Code.{RunTold, Lent, Sized}
 

@@ -12,7 +12,7 @@ use Rattle.sessions.specs.File.{Below, ruleIn, boardsIn, cellsIn}
 use Rattle.sessions.specs.FileRefusals.{countIn}
 use Rattle.sessions.specs.Run.{logOf, acceptedIn, staleOf}
 use Rattle.sessions.proofs.AcceptedLaws.{readable, few-records}
-use Rattle.sessions.proofs.RunPromises.{logged}
+use Rattle.sessions.proofs.LogLaws.{logged}
 use Rattle.sessions.proofs.SmallRun.{log-of-bytes, accepted-at-most, stale-at-most}
 use Rattle.listing.specs.declared.Listed.{Listed}
 use Rattle.listing.specs.Statements.{Lists}

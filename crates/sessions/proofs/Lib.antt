@@ -13,5 +13,6 @@ pub mod StaleLaws
 pub mod FinishLaws
 pub mod Unique
 pub mod FileRefused
+pub mod LogLaws
 pub mod RunPromises
 pub mod SmallRun

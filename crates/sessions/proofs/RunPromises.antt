@@ -1,13 +1,12 @@
 -- What a run of a session file promises: demand 3 of every accepted Read, no stale copy under rules 2 to 4, no record answered 7. Assumes nothing.
-use mathlib.Core.Path.{_≡_, refl, sym, ap, _∙_}
+use mathlib.Core.Path.{_≡_, refl, sym, _∙_}
 use mathlib.Core.Logic.{_≢_}
 use mathlib.Core.Bool.{Bool, true, false, not, _&&_}
-use mathlib.Core.List.{List, [], _∷_, _++_, map}
-use Prim.Native.Nat.{ℕ, zero, suc, _+_, _*_, _/_, _<_, _≤_}
+use mathlib.Core.List.{List, [], _∷_, _++_}
+use Prim.Native.Nat.{ℕ, zero, suc, _*_, _<_, _≤_}
 use native.Mathlib.Omega.{arith}
 use lib.Dec.{eqb}
-use lib.ListN.{length, getD, drop, take, length-drop, take-append-drop}
-use lib.Seq.{drop-cons}
+use lib.ListN.{length, getD, drop, take}
 use borrow.Author.Tests.{eq-eqb}
 use Rattle.protocol.specs.declared.Action.{Action}
 use Rattle.protocol.specs.Masks.{hasBoard}
@@ -18,14 +17,14 @@ use Rattle.protocol.specs.Fresh.{freshTable}
 use Rattle.protocol.specs.Runs.{CoherentRule, Line, log, tableAfterAll, isRead, acceptedRead, latestWrite}
 use Rattle.protocol.proofs.Demand3Reads.{reads-latest}
 use Rattle.protocol.proofs.FreshStaysSound.{never-7, live-is-latest}
-use Rattle.sessions.specs.File.{ruleIn, boardsIn, cellsIn, startingIn, recordsIn, actionAt, actions}
+use Rattle.sessions.specs.File.{ruleIn, boardsIn, cellsIn, startingIn, recordsIn, actionAt}
 use Rattle.sessions.specs.FileRefusals.{countIn}
 use Rattle.sessions.specs.Run.{actionsOf, logOf, endOf, noLine, lineOfRecord, countBelow, sumBelow, staleIn, staleOf}
 use Rattle.sessions.specs.declared.Report.{Report}
-use Rattle.sessions.specs.Statements.{accepting, Runs}
+use Rattle.sessions.specs.Statements.{Runs}
 use Rattle.sessions.proofs.AcceptedLaws.{runnable}
 use Rattle.sessions.proofs.BytesLaws.{length-starting}
-use Rattle.sessions.proofs.RunLaws.{length-actions, length-log}
+use Rattle.sessions.proofs.LogLaws.{its-action, cut-at, in-slice}
 
 -- ---- counts of nothing
 
@@ -48,20 +47,6 @@ unfolding log tableAfterAll
 none-told-7 rule boards cells t [] h i = λ e. omega arith
 none-told-7 rule boards cells t (a ∷ l) h zero = h [] a
 none-told-7 rule boards cells t (a ∷ l) h (suc i) = none-told-7 rule boards cells (tableAfter rule boards cells t a) l (λ earlier. h (a ∷ earlier)) i
-
--- the i-th line is of the i-th record
-action-logged : (rule boards cells : ℕ) (t : Table) (records : List ℕ) (at n i : ℕ) → i < n → getD (log rule boards cells t (actions records at n)) i noLine .action ≡ actionAt records (at + 9 * i)
-unfolding log actions
-action-logged rule boards cells t records at zero i h = absurd (omega arith)
-action-logged rule boards cells t records at (suc n) zero h = let e : at + 9 * 0 ≡ at = omega arith in rw e
-action-logged rule boards cells t records at (suc n) (suc i) h =
-    let e : at + 9 * suc i ≡ at + 9 + 9 * i = omega arith in
-    rw e (action-logged rule boards cells (tableAfter rule boards cells t (actionAt records at)) records (at + 9) n i (omega arith))
-
-getD-front : (f : Line → ℕ) (ls : List Line) (rest : List ℕ) (i : ℕ) → i < length ls → getD (map f ls ++ rest) i 0 ≡ f (getD ls i noLine)
-getD-front f [] rest i h = absurd (omega arith)
-getD-front f (l ∷ ls) rest zero h = refl
-getD-front f (l ∷ ls) rest (suc i) h = getD-front f ls rest i (omega arith)
 
 -- ---- of a file's log
 
@@ -87,37 +72,15 @@ module _ (file : List ℕ) where
       fresh-copy c p m true e = rw (eq-eqb (copyAt (x c) p) (latest c) (rw (length-starting file) at (live-is-latest (ruleIn file) (boardsIn file) (startingIn file) (actionsOf file) l h c p m) e))
       fresh-copy c p m false e = refl
 
-  pub logged : length (logOf file) ≡ countIn file
-  unfolding logOf
-  logged =
-      length-log (ruleIn file) (boardsIn file) (cellsIn file) (freshTable (boardsIn file) (startingIn file)) (actionsOf file)
-      ∙ length-actions (recordsIn file) 0 (length (recordsIn file) / 9)
-      ∙ rw (length-drop (9 + 4 * cellsIn file) file)
-
   session-never-7 : (i : ℕ) → lineOfRecord file i .told .number ≢ 7
   unfolding lineOfRecord logOf
   session-never-7 =
       none-told-7 (ruleIn file) (boardsIn file) (cellsIn file) (freshTable (boardsIn file) (startingIn file)) (actionsOf file)
       (λ earlier. rw (length-starting file) at (never-7 (ruleIn file) (boardsIn file) (startingIn file) earlier))
 
-  pub its-action : (i : ℕ) → i < countIn file → lineOfRecord file i .action ≡ actionAt (recordsIn file) (9 * i)
-  unfolding lineOfRecord logOf
-  its-action i h =
-      let e : 0 + 9 * i ≡ 9 * i = omega arith in
-      let l : length (recordsIn file) / 9 ≡ countIn file = rw (length-drop (9 + 4 * cellsIn file) file) in
-      rw e at (action-logged (ruleIn file) (boardsIn file) (cellsIn file) (freshTable (boardsIn file) (startingIn file)) (recordsIn file) 0 (length (recordsIn file) / 9) i (rw l h))
-
-  cut-at : (i : ℕ) → i < countIn file → logOf file ≡ take i (logOf file) ++ (lineOfRecord file i ∷ drop (suc i) (logOf file))
-  unfolding lineOfRecord
-  cut-at i h = sym (take-append-drop i (logOf file)) ∙ ap (λ (ls : List Line). take i (logOf file) ++ ls) (drop-cons (logOf file) i noLine (rw logged h))
-
 -- ---- of a run that is not refused
 
 module _ (file m k w numbers values : List ℕ) (r : Report) (m′ k′ w′ numbers′ values′ : List ℕ) (s : Runs file m k w numbers values r m′ k′ w′ numbers′ values′) (ok : r .number ≡ 0) where
-  pub in-slice : (f : Line → ℕ) (old new : List ℕ) → new ≡ accepting (r .number) (map f (logOf file) ++ drop (countIn file) old) old → (i : ℕ) → i < countIn file → getD new i 0 ≡ f (lineOfRecord file i)
-  unfolding lineOfRecord
-  in-slice f old new e i h = rw (e, eq-eqb (r .number) 0 ok) (getD-front f (logOf file) (drop (countIn file) old) i (rw (logged file) h))
-
   -- demand 3: an accepted Read among the records answers the latest accepted write before it
   pub run-reads-latest : CoherentRule (ruleIn file) → (i : ℕ) → i < countIn file → getD numbers′ i 0 ≡ 0 → actionAt (recordsIn file) (9 * i) .code ≡ 0 →
       getD values′ i 0
@@ -125,9 +88,9 @@ module _ (file m k w numbers values : List ℕ) (r : Report) (m′ k′ w′ num
   unfolding acceptedRead isRead
   run-reads-latest co i h n c =
       let a = its-action file i h in
-      let told = in-slice (λ line. line .told .number) numbers numbers′ (s .numbers-are) i h in
+      let told = in-slice file m k w numbers values r m′ k′ w′ numbers′ values′ s ok (λ line. line .told .number) numbers numbers′ (s .numbers-are) i h in
       let read : acceptedRead (lineOfRecord file i) ≡ true = rw (sym told, n, a, c) in
-      in-slice (λ line. line .told .value) values values′ (s .values-are) i h
+      in-slice file m k w numbers values r m′ k′ w′ numbers′ values′ s ok (λ line. line .told .value) values values′ (s .values-are) i h
       ∙ rw a at (session-reads-latest file co (take i (logOf file)) (drop (suc i) (logOf file)) (lineOfRecord file i) (cut-at file i h) read)
 
   pub run-not-stale : 2 ≤ ruleIn file → r .stale ≡ 0
@@ -135,4 +98,4 @@ module _ (file m k w numbers values : List ℕ) (r : Report) (m′ k′ w′ num
       s .stale-is ∙ rw (eq-eqb (r .number) 0 ok) (session-not-stale file l (runnable file (tableOf m k w) (length numbers) (length values) (sym (s .number-is) ∙ ok) .readable-too .ruled))
 
   pub run-never-7 : (i : ℕ) → i < countIn file → getD numbers′ i 0 ≢ 7
-  run-never-7 i h e = session-never-7 file i (sym (in-slice (λ line. line .told .number) numbers numbers′ (s .numbers-are) i h) ∙ e)
+  run-never-7 i h e = session-never-7 file i (sym (in-slice file m k w numbers values r m′ k′ w′ numbers′ values′ s ok (λ line. line .told .number) numbers numbers′ (s .numbers-are) i h) ∙ e)

@@ -63,7 +63,6 @@ abbrev pub Below : (bound : ℕ) → List ℕ → Type 0
 Below bound l = (i : ℕ) → i < length l → getD l i 0 < bound
 
 -- little-endian, for numbers of 16 and of 32 bits
-
 abbrev pub two : ℕ → List ℕ
 two x = x % 256 ∷ x / 256 ∷ []
 

@@ -50,17 +50,17 @@ pub fn body_bad(file: &[u8], cells: usize) -> bool
     records_bad(file.len() - from)
 }
 
-// Bad sizes, no such rule, or a bad body: the two tests say whether they are bad.
-pub fn body_refusal(sizes: bool, rule: u8, body: bool) -> u8
-    ensures { λ r. ⌜ r ≡ firstNumber (bodyRefusals sizes rule body) ⌝ }
+// Bad sizes, no such rule, or a bad body.
+pub fn body_refusal(sizes_bad: bool, rule: u8, body_bad: bool) -> u8
+    ensures { λ r. ⌜ r ≡ firstNumber (bodyRefusals «sizes_bad» rule «body_bad») ⌝ }
 {
-    if sizes {
+    if sizes_bad {
         return protocol::BAD_SIZES;
     }
     if rule > 4 {
         return protocol::BAD_RULE;
     }
-    if body {
+    if body_bad {
         return protocol::WRONG_LENGTH;
     }
     protocol::ACCEPTED

@@ -8,7 +8,7 @@ ghost use Rattle.protocol.specs.Slices.{tableOf, sizesGood};
 ghost use Rattle.sessions.specs.Run.{countBelow, isStale, staleIn};
 ghost use Rattle.sessions.specs.Code.{Counted};
 
-// 1 for a stale copy, else 0.
+// 1 for a stale copy, else 0. `table` has its own test of a board in a mask, which is private: it asks that the board is below 16.
 fn one(live: u16, board: usize, copy: u32, latest: u32) -> usize
     requires { ⌜ board < 16 ⌝ }
     ensures { λ r. ⌜ (r ≡ cond (isStale live board copy latest) 1 0) × (r ≤ 1) ⌝ }
