@@ -1,4 +1,4 @@
-// Runs the cases of document 01; crates/cases/stdout says what must come out, worked out by hand from the document.
+// Runs the cases of document 01; crates/cases/stdout says what must come out, worked out from the document, nothing of it from a run.
 // Before a part of an array is lent, its length is tested: that is for the proof, and every case passes.
 mod actions;
 mod boards;
