@@ -1,7 +1,7 @@
 -- One record more: the run of a list of actions, and the action after them. Assumes nothing.
 use mathlib.Core.Path.{_≡_, refl, sym, ap, _∙_}
 use mathlib.Core.Logic.{_≢_}
-use mathlib.Core.Bool.{Bool, true, false, cond}
+use mathlib.Core.Bool.{cond}
 use mathlib.Core.List.{List, [], _∷_, _++_, map, map-append}
 use Prim.Native.Nat.{ℕ, _+_, _*_, _<_, _≤_}
 use native.Mathlib.Omega.{arith}
@@ -23,7 +23,7 @@ use Rattle.sessions.specs.Run.{acceptedIn}
 use Rattle.sessions.specs.Code.{Noted, Ran}
 use Rattle.sessions.specs.File.{actionAt, actions}
 use Rattle.sessions.proofs.BytesLaws.{fill-more}
-use Rattle.sessions.proofs.RunLaws.{length-actions, actions-more, table-more, log-more, length-log, accepted-more, latest-more}
+use Rattle.sessions.proofs.RunLaws.{length-actions, actions-more, table-more, log-more, length-log, accepted-more, latest-more, one-at-most}
 
 -- ---- what an answered action leaves of the latest accepted writes
 
@@ -47,11 +47,7 @@ module _ (a : Action) (number : ℕ) (latest : List ℕ) where
       ]
 
 pub noted-few : (a : Action) (number : ℕ) (latest : List ℕ) (r : ℕ) (latest′ : List ℕ) → Noted a number latest r latest′ → r ≤ 1
-noted-few a number latest r latest′ n = rw (n .counts) (go (eqb number 0))
-  where
-    go : (b : Bool) → cond b 1 0 ≤ 1
-    go true = omega arith
-    go false = omega arith
+noted-few a number latest r latest′ n = rw (n .counts) (one-at-most (eqb number 0))
 
 -- what a cell was last written looks at the number of an answer alone
 written-told : (c v : ℕ) (a : Action) (n x : ℕ) (told : Answer) → n ≡ told .number →

@@ -1,8 +1,8 @@
 -- A run with one action more: its table, its log, and what is counted of it. Assumes nothing.
 use mathlib.Core.Path.{_≡_, refl, ap}
-use mathlib.Core.Bool.{cond}
+use mathlib.Core.Bool.{Bool, true, false, cond}
 use mathlib.Core.List.{List, [], _∷_, _++_}
-use Prim.Native.Nat.{ℕ, zero, suc, _+_, _*_}
+use Prim.Native.Nat.{ℕ, zero, suc, _+_, _*_, _≤_}
 use native.Mathlib.Omega.{arith}
 use lib.Dec.{eqb}
 use lib.ListN.{length}
@@ -47,6 +47,10 @@ module _ (rule boards cells : ℕ) where
   length-log t (a ∷ l) = ap suc (length-log (tableAfter rule boards cells t a) l)
 
 -- ---- what is counted
+
+pub one-at-most : (b : Bool) → cond {A = ℕ} b 1 0 ≤ 1
+one-at-most true = omega arith
+one-at-most false = omega arith
 
 pub accepted-more : (ls : List Line) (l : Line) → acceptedIn (ls ++ (l ∷ [])) ≡ acceptedIn ls + cond (eqb (l .told .number) 0) 1 0
 unfolding acceptedIn

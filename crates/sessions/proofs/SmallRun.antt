@@ -1,5 +1,5 @@
 -- How large the numbers of a run are at most: those of its log, and its two counts. Assumes nothing.
-use mathlib.Core.Bool.{Bool, true, false, cond}
+use mathlib.Core.Bool.{Bool}
 use mathlib.Core.List.{List, [], _∷_}
 use Prim.Native.Nat.{ℕ, zero, suc, _+_, _*_, _/_, _<_, _≤_}
 use native.Mathlib.Omega.{arith}
@@ -12,6 +12,7 @@ use Rattle.protocol.proofs.SmallNumbers.{SmallActions, SmallLines, fresh-log-sm
 use Rattle.sessions.specs.File.{Below, le32, values, actionAt, actions, ruleIn, boardsIn, cellsIn, startingIn, recordsIn}
 use Rattle.sessions.specs.Run.{actionsOf, logOf, acceptedIn, countBelow, sumBelow, staleIn, staleOf}
 use Rattle.sessions.proofs.BytesLaws.{length-starting}
+use Rattle.sessions.proofs.RunLaws.{one-at-most}
 
 -- ---- the numbers of a file of bytes
 
@@ -52,10 +53,6 @@ log-of-bytes file b =
     in-records i = rw (getD-drop (9 + 4 * cellsIn file) file i 0) (bytes (9 + 4 * cellsIn file + i))
 
 -- ---- the counts
-
-one-at-most : (b : Bool) → cond {A = ℕ} b 1 0 ≤ 1
-one-at-most true = omega arith
-one-at-most false = omega arith
 
 pub accepted-at-most : (ls : List Line) → acceptedIn ls ≤ length ls
 unfolding acceptedIn
