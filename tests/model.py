@@ -30,9 +30,7 @@ class Cell:
 
     def current(self):
         """The dirty copy if there is one, else main."""
-        for p in sorted(self.dirty):
-            return self.copy[p]
-        return self.main
+        return next((v for p, v in enumerate(self.copy) if p in self.dirty), self.main)
 
     def failing(self):
         """The conditions of soundness that fail here, whoever asks for them."""
