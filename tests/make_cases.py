@@ -109,9 +109,9 @@ MUST = {"step": range(17), "fresh": (0, 1), "check": ("sound", "unsound", 1, 2),
         "list of a refused file": (1, 2, 17, 18, 19), "run that leaves stale copies": (True,)}
 
 
-def print_counts(lines):
-    """Prints what the made calls hold, as tables; fails where a bar is missed."""
-    missed = []
+def counts(lines):
+    """What the made calls hold, as tables; fails where a bar is missed."""
+    text, missed = [], []
 
     def bar(what, got, least):
         if got < least:
@@ -122,18 +122,18 @@ def print_counts(lines):
     total = Counter()
     for (name, _), k in said.items():
         total[name] += k
-    print("%d calls, %d of them steps; %d lines that are not a call; %d bytes.\n"
+    text.append("%d calls, %d of them steps; %d lines that are not a call; %d bytes.\n"
           % (bar("calls", sum(total[name] for name in calls.CALLS), 2000), total["step"], total["not a call"],
              sum(len(x) + 1 for x in lines)))
 
-    print("| Call | answers |\n|---|---|")
+    text.append("| Call | answers |\n|---|---|")
     for name, numbers in MUST.items():
         got = [(k, bar("%s answering %s" % (name, k), said[name, str(k)], 20)) for k in numbers]
-        print("| %s | %s |" % (name, ", ".join("%s: %d" % x for x in got)))
-    print("| sizes_in | %d |" % bar("sizes_in", total["sizes_in"], 20))
+        text.append("| %s | %s |" % (name, ", ".join("%s: %d" % x for x in got)))
+    text.append("| sizes_in | %d |" % bar("sizes_in", total["sizes_in"], 20))
 
-    print("\n| Guard: accepted and refused steps on sound cells | " + " | ".join("rule %d" % r for r in RULES) + " |")
-    print("|---" * 6 + "|")
+    text.append("\n| Guard: accepted and refused steps on sound cells | " + " | ".join("rule %d" % r for r in RULES) + " |")
+    text.append("|---" * 6 + "|")
     for code, row in GUARDS.items():
         for number in (0, *row):
             cells = []
@@ -143,13 +143,13 @@ def print_counts(lines):
                 assert asked or not can, (rule, code, number)
                 cells.append("cannot" if asked and not can else "" if not asked else
                              str(bar("%s %d under rule %d" % (NAMES[code], number, rule), held["guard", rule, code, number], 5)))
-            print("| %s: %d | %s |" % (NAMES[code], number, " | ".join(cells)))
+            text.append("| %s: %d | %s |" % (NAMES[code], number, " | ".join(cells)))
     for rule, code, refusals in sorted(SOUND):
         bar("%s under rule %d with refusals %s" % (NAMES[code], rule, refusals), held["set", rule, code, refusals], 5)
 
-    print("\n| Damage: steps + checks where this condition fails alone; in brackets where it isn't asked | "
+    text.append("\n| Damage: steps + checks where this condition fails alone; in brackets where it isn't asked | "
           + " | ".join("rule %d" % r for r in RULES) + " |")
-    print("|---" * 6 + "|")
+    text.append("|---" * 6 + "|")
     possible = set(alone_possible())
     for condition in ("bits live", "bits dirty", "bits lock", *list(model.CONDITIONS)[1:]):
         cells = []
@@ -161,13 +161,14 @@ def print_counts(lines):
             kinds = ("step alone", "check alone") if asked else ("step unasked", "check unasked")
             got = [bar("%s, %s, rule %d" % (k, condition, rule), held[k, condition, rule], 3) for k in kinds]
             cells.append(("%d + %d" if asked else "(%d + %d)") % tuple(got))
-        print("| %s | %s |" % (condition, " | ".join(cells)))
+        text.append("| %s | %s |" % (condition, " | ".join(cells)))
 
-    print("\n| Accepted steps with | |\n|---|---|")
+    text.append("\n| Accepted steps with | |\n|---|---|")
     for name, k in edges.items():
-        print("| %s | %d |" % (name, bar(name, k, 20)))
+        text.append("| %s | %d |" % (name, bar(name, k, 20)))
     if missed:
-        sys.exit("make_cases: bars missed:\n" + "\n".join(missed))
+        sys.exit("\n".join(text + ["make_cases: bars missed:"] + missed))
+    return "\n".join(text)
 
 
 # ------------------------------------------------------------ hand-worked cases
@@ -199,23 +200,24 @@ def hand_worked(path):
 
 def main():
     if sys.argv[1:] == ["--counts"]:
-        print_counts(made())
+        print(counts(made()))
         return
     if len(sys.argv) != 4:
         sys.exit(__doc__)
     ins, outs, differ = hand_worked(sys.argv[1])
     if differ:
         sys.exit("\n".join(differ) + "\nmake_cases: %d hand-worked lines differ from the model" % len(differ))
+    by_hand = sum(1 for x in ins if x and not x.startswith("#"))
     lines = made()
-    print("%d hand-worked calls, all as the model says.\n" % sum(1 for x in ins if x and not x.startswith("#")))
-    print_counts(lines)
+    text = counts(lines)
     ins += ["", "# Made by the model.", *lines]
     outs += ["", "# Made by the model.", *map(calls.answer, lines)]
     data = ["".join(x + "\n" for x in text).encode("ascii") for text in (ins, outs)]
     assert len(data[0]) < 2_000_000
-    for path, text in zip(sys.argv[2:], data):
+    for path, held in zip(sys.argv[2:], data):
         with open(path, "wb") as f:
-            f.write(text)
+            f.write(held)
+    print("%d hand-worked calls, all as the model says.  Made by the model:\n\n%s" % (by_hand, text))
 
 
 if __name__ == "__main__":
