@@ -5,6 +5,7 @@ them; wider cells are these with their boards and values renamed.
 """
 import random
 from collections import Counter, defaultdict
+from copy import deepcopy
 from itertools import combinations, product
 
 import calls
@@ -62,18 +63,18 @@ def value():
     return R.choice((0, 0, 0, TOP, TOP, TOP, 1, 7, 9, 255, 256, 65536, 2 ** 31, TOP - 1, R.randrange(TOP), R.randrange(TOP)))
 
 
-def widened(c, boards, last=None):
+def widened(c, boards, one_name=None):
     """The small cell c with more boards, its boards and values renamed; and the new names.
 
-    The board `last`, if any, becomes P-1.
+    one_name is a board of c and its new name, where that matters.
     """
     ends = {0, boards - 1} if R.random() < 0.6 else set()
     name = sorted(ends) + R.sample([b for b in range(boards) if b not in ends], max(len(c.copy) - len(ends), 0))
     R.shuffle(name)
-    if last is not None and boards - 1 in name:
-        name.remove(boards - 1)
-    if last is not None:
-        name.insert(last, boards - 1)
+    if one_name:
+        p, new = one_name
+        name = [b for b in name if b != new]
+        name.insert(p, new)
     one, two = R.sample((TOP, R.choice((1, 256, TOP - 1)), R.randrange(257, TOP - 1)), 2)
     values = [0, one, two]
     wide = Cell(boards, values[c.main])
@@ -110,13 +111,22 @@ def junk(boards):
     return c
 
 
-def with_high_bit(c, which):
+def with_high_bit(c, which, bit=None):
     """c with a bit at P or above in one of its masks."""
-    bit = R.choice((len(c.copy), 15, R.randrange(len(c.copy), 16)))
-    d = Cell(len(c.copy), c.main)
-    d.copy, d.live, d.dirty, d.lock = list(c.copy), set(c.live), set(c.dirty), set(c.lock)
-    getattr(d, which).add(bit)
+    d = deepcopy(c)
+    getattr(d, which).add(bit or R.choice((len(c.copy), 15, R.randrange(len(c.copy), 16))))
     return d
+
+
+def to_blame(c, condition):
+    """The boards without which this condition holds."""
+    def emptied(p):
+        d = deepcopy(c)
+        d.copy[p] = 0
+        for boards in (d.live, d.dirty, d.lock):
+            boards.discard(p)
+        return d
+    return [p for p in range(len(c.copy)) if condition not in emptied(p).failing()]
 
 
 def some_boards(least=1):
@@ -225,7 +235,7 @@ def steps_at_edges():
     for rule, code in product(RULES, range(9)):
         for _ in range(8 if model.exists(rule, code) else 0):
             c, p, q = pick(SOUND[rule, code, ()])
-            c, name = widened(c, 16, q if code == CTOC else p)
+            c, name = widened(c, 16, (q if code == CTOC else p, 15))
             n, _, lent = table_with(c)
             model.put(c, n - 1, *lent)
             step(rule, 16, n, code, name[p], name[q] if code == CTOC else 0, n - 1,
@@ -305,6 +315,30 @@ def steps_refused(faults, rule):
     step(rule, boards, n, code, p, q, cell, v, lent, None if number == 8 else number)
 
 
+def steps_with_wrong_fields():
+    about("Steps with a code above 8 or an unused field that is not 0; the action that a rule lacks; boards from P on; cells from N on.")
+    for rule in RULES:
+        c, _ = widened(pick(SOUND[rule, DROP, ()])[0], 5)
+        n, at, lent = table_with(c)
+
+        def try_step(number, code, p=0, q=0, cell=at, v=0):
+            step(rule, 5, n, code, p, q, cell, v, lent, number)
+        for code in (9, 10, 15, 16, 64, 128, 255):
+            try_step(3, code)
+        for code in range(9):
+            if code != CTOC:
+                try_step(3, code, q=R.choice((1, 2, 4, 8, 16, 32, 64, 128, 255)))
+            if code != WRITE:
+                try_step(3, code, v=R.choice((1, 255, 256, 65536, 2 ** 24, 2 ** 31, TOP)))
+            if not model.exists(rule, code):
+                try_step(4, code)
+                continue
+            try_step(5, code, p=R.choice((5, 6, 15, 16, 255)))
+            try_step(6, code, p=4, cell=R.choice((n, n + 1, n + 256, 512, 65535)))
+        for q in (5, 6, 15, 16, 255):
+            try_step(5, CTOC, q=q)
+
+
 def steps_by_order():
     about("Steps with one fault, and with two or more: the first that holds is answered.")
     for fault in range(1, 8):
@@ -371,6 +405,30 @@ def steps_and_checks_of_damage():
             cells = [walked(rule, boards) for _ in range(some_n())]
             cells[-1] = c
             assert check(rule, boards, len(cells), slices(cells)) == ["sound"], MADE[-1]
+
+
+def every_board():
+    about("Every board of 16: accepted steps by it, and each condition failing by it alone.")
+    for board in range(16):
+        for code in range(9):
+            rule = R.choice([r for r in RULES if model.exists(r, code)])
+            c, p, q = pick(SOUND[rule, code, ()])
+            c, name = widened(c, 16, (R.choice((p, q)) if code == CTOC else p, board))
+            step(rule, 16, 1, code, name[p], name[q] if code == CTOC else 0, 0, value() if code == WRITE else 0, slices([c]), 0)
+        for condition in sorted({k[0] for k in ALONE}):
+            for _ in range(2):
+                rule = R.choice([r for f, r in sorted(ALONE) if f == condition])
+                small = pick(ALONE[condition, rule])
+                c, _ = widened(small, 16, (R.choice(to_blame(small, condition) or [0]), board))
+                assert check(rule, 16, 1, slices([c])) == ["unsound", "0"], MADE[-1]
+                step(rule, 16, 1, DROP, R.randrange(16), 0, 0, 0, slices([c]), 7)
+    about("Every P below 16: a mask bit at P, and at 15.")
+    for boards, which in product(range(1, 16), ("live", "dirty", "lock")):
+        for bit in sorted({boards, 15}):
+            rule = R.choice((3, 4) if which == "lock" else RULES)
+            c = with_high_bit(Cell(boards, value()), which, bit)
+            assert check(rule, boards, 1, slices([c])) == ["unsound", "0"], MADE[-1]
+            step(rule, boards, 1, DROP, boards - 1, 0, 0, 0, slices([c]), 7)
 
 
 # --------------------------------------------------- checks, fresh and sizes
@@ -464,7 +522,7 @@ def faulty_file(faults, least=0):
                                    (start, records[:-1] + [record(DROP, 0)[:5]])))
     file = list(session(rule, boards, start, records, n=n, mark=mark, version=version))
     if "body" in faults and R.random() < 0.3:           # within the starting values
-        file = file[:9 + R.randrange(4 * good[1])]
+        file = file[:9 + R.choice((4 * good[1] - 1, R.randrange(4 * good[1])))]
     if "short" in faults:
         file = file[:R.randrange(9)]
     return file, good
@@ -476,7 +534,7 @@ FILE_ORDER = ("short", 17, 18, 1, 2, "body", 20)
 def faults_to_try(last):
     """Each fault alone, each two, and some sets of more."""
     kinds = FILE_ORDER[:FILE_ORDER.index(last) + 1]
-    out = [set()] * 25 + [{k} for k in kinds for _ in range(20)] + [set(two) for two in combinations(kinds, 2)]
+    out = [set()] * 25 + [{k} for k in kinds for _ in range(20)] + [set(two) for two in combinations(kinds, 2) for _ in range(3)]
     return out + [set(R.sample(kinds, R.randint(3, len(kinds)))) for _ in range(12)]
 
 
@@ -623,7 +681,8 @@ def no_calls():
 
 def made():
     sort_small_cells()
-    for section in (steps_by_guard, steps_at_edges, steps_walked, steps_by_order, steps_and_checks_of_damage, checks, freshes, sizes, files,
+    for section in (steps_by_guard, steps_at_edges, steps_walked, steps_with_wrong_fields, steps_by_order,
+                    steps_and_checks_of_damage, every_board, checks, freshes, sizes, files,
                     large, no_calls):
         section()
     return MADE
