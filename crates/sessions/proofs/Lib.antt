@@ -13,6 +13,7 @@ pub mod StaleLaws
 pub mod FinishLaws
 pub mod Unique
 pub mod FileRefused
+pub mod FileOrder
 pub mod LogLaws
 pub mod RunPromises
 pub mod SmallRun
