@@ -1,26 +1,26 @@
 -- What the number of an answer settles for the code: the places of an accepted action, and the whole promise of a step. Assumes nothing.
-use mathlib.Core.Path.{_≡_, sym, ap, _∙_}
+use mathlib.Core.Path.{_≡_, refl, sym, ap, _∙_}
 use mathlib.Core.Logic.{_≢_, inl, inr}
-use mathlib.Core.Bool.{true, false, not}
-use mathlib.Core.List.{List}
+use mathlib.Core.Bool.{Bool, true, false}
+use mathlib.Core.List.{List, [], _∷_}
 use Prim.Native.Nat.{ℕ, _+_, _*_, _^_, _<_, _≤_}
 use lib.ListN.{getD}
 use native.Mathlib.Omega.{arith}
 use native.Mathlib.Decide.{ℕ-discrete, decLt}
-use lib.Dec.{eqb}
 use borrow.Author.Tests.{leb-false, not-false}
 use Rattle.protocol.specs.declared.Action.{Action}
 use Rattle.protocol.specs.Names.{ruleOf}
 use Rattle.protocol.specs.Slices.{Table, tableOf, main, copies, masks, sizesGood}
 use Rattle.protocol.specs.Cell.{Cell, cellOf}
 use Rattle.protocol.specs.Soundness.{sound}
+use Rattle.protocol.specs.First.{when, firstNumber}
 use Rattle.protocol.specs.Step.{malformed, missing, offBoard, seen, refusals, answer, tableAfter}
 use Rattle.protocol.proofs.Booleans.{clash}
 use Rattle.protocol.proofs.InWords.{malformed-exactly, offBoard-exactly}
 use Rattle.protocol.proofs.NumberLaws.{code-fits}
 use Rattle.protocol.proofs.StepLaws.{accepted-value}
 use Rattle.protocol.proofs.Demand1.{accepted-exactly, refused-changes-nothing}
-use Rattle.protocol.proofs.RefusalOrder.{answers-7, answers-guard}
+use Rattle.protocol.proofs.RefusalOrder.{answers-3, answers-4, answers-7, answers-guard}
 use Rattle.table.specs.Statements.{Steps}
 use Rattle.table.specs.Code.{Ready, Room, MasksAt, currentAt, GuardGives, Performs}
 use Rattle.table.proofs.ReadyLaws.{ready, room, copy-is, as-live, as-dirty, as-lock, current-is}
@@ -39,6 +39,18 @@ boards-in boards a some f o = (home (decLt (a .board) boards), there (ℕ-discre
     there (yes c) z (no n) = absurd (clash (offBoard-exactly boards a .1 (inr (c, omega arith))) o)
     there (no c) (yes z) (no n) = absurd (n (omega arith))
     there (no c) (no z) (no n) = absurd (clash (malformed-exactly a .1 (inl (inr (c, z)))) f)
+
+-- refusals 3 and 4
+abbrev form : (rule : ℕ) → Action → ℕ
+form rule a = firstNumber (when 3 (malformed a) ∷ when 4 (missing rule (a .code)) ∷ [])
+
+pub formed : (rule : ℕ) (a : Action) → form rule a ≡ 0 → (malformed a ≡ false) × (missing rule (a .code) ≡ false)
+formed rule a e = go (malformed a) refl (missing rule (a .code)) refl
+  where
+    go : (b : Bool) → malformed a ≡ b → (d : Bool) → missing rule (a .code) ≡ d → (malformed a ≡ false) × (missing rule (a .code) ≡ false)
+    go true f d g = let z : _≡_ {A = ℕ} 3 0 = rw f at e in absurd (omega arith)
+    go false f true g = let z : _≡_ {A = ℕ} 4 0 = rw (f, g) at e in absurd (omega arith)
+    go false f false g = (f, g)
 
 module _ (rule boards cells : ℕ) (m k w : List ℕ) (a : Action) where
   abbrev before : Table
@@ -79,6 +91,15 @@ module _ (rule boards cells : ℕ) (m k w : List ℕ) (a : Action) where
         slices = rw ok (p .stored (ruleOf rule));
       }
 
+  -- refused for its form: 3, or 4
+  pub unformed : sizesGood boards cells before ≡ true → rule ≤ 4 → (n : ℕ) → n ≡ form rule a → n ≢ 0 → n ≡ answer rule boards cells before a .number
+  unformed s r n e h = go (malformed a) refl (missing rule (a .code)) refl
+    where
+      go : (b : Bool) → malformed a ≡ b → (d : Bool) → missing rule (a .code) ≡ d → n ≡ answer rule boards cells before a .number
+      go true f d g = (rw f at e) ∙ sym (answers-3 rule boards cells before a .1 (s, r, f))
+      go false f true g = (rw (f, g) at e) ∙ sym (answers-4 rule boards cells before a .1 (s, r, f, g))
+      go false f false g = absurd (h (rw (f, g) at e))
+
 -- ---- past the sixth refusal
 
 pub record Cleared (rule boards cells : ℕ) (m k w : List ℕ) (a : Action) : Type 0 where
@@ -108,9 +129,9 @@ module _ (rule boards cells : ℕ) (m k w : List ℕ) (a : Action) (c : Cleared 
 
     -- the guard, on what the code has read of the cell
     pub cleared-guard : (now n : ℕ) → now ≡ currentAt boards (a .cell) dirty m k →
-        GuardGives rule live dirty lock (not (eqb (getD k (a .cell * boards + a .board) 0) now)) a n → n ≡ answer rule boards cells (tableOf m k w) a .number
+        GuardGives rule live dirty lock (getD k (a .cell * boards + a .board) 0) now a n → n ≡ answer rule boards cells (tableOf m k w) a .number
     cleared-guard now n z g =
         let y = cleared-ready in
         g here (as-live boards cells (a .cell) m k w y live dirty lock at) (as-dirty boards cells (a .cell) m k w y live dirty lock at) (as-lock boards cells (a .cell) m k w y live dirty lock at)
-        (rw (copy-is boards cells (a .cell) m k w y (a .board) (cleared-boards .0), current-is boards cells (a .cell) m k w y live dirty lock at dirty-below, ← z))
+        (copy-is boards cells (a .cell) m k w y (a .board) (cleared-boards .0)) (current-is boards cells (a .cell) m k w y live dirty lock at dirty-below ∙ sym z)
         ∙ sym (answers-guard rule boards cells (tableOf m k w) a (c .sizes, c .ruled, c .formed, c .there, c .boarded, c .inside, s))

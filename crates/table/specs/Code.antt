@@ -65,10 +65,10 @@ boardSound rule live dirty lock copy current board =
     && (ltb rule 3 || (not (hasBoard lock board) || not (hasAnother live board)))
     && (ltb rule 4 || (not (hasBoard dirty board) || hasBoard lock board))
 
--- n is what the guard of an action answers on every cell with these masks; differs: its board's copy is not the current value
-abbrev pub GuardGives : (rule live dirty lock : ℕ) → (differs : Bool) → Action → (n : ℕ) → Type 0
-GuardGives rule live dirty lock differs a n =
-    (x : Cell) → liveMask x ≡ live → dirtyMask x ≡ dirty → lockMask x ≡ lock → not (eqb (copyAt x (a .board)) (currentValue x)) ≡ differs →
+-- n is what the guard of an action answers on every cell with these masks, this copy at its board, and this current value
+abbrev pub GuardGives : (rule live dirty lock copy current : ℕ) → Action → (n : ℕ) → Type 0
+GuardGives rule live dirty lock copy current a n =
+    (x : Cell) → liveMask x ≡ live → dirtyMask x ≡ dirty → lockMask x ≡ lock → copyAt x (a .board) ≡ copy → currentValue x ≡ current →
     n ≡ firstNumber (guard x (ruleOf rule) (procOf a))
 
 -- the action of these numbers

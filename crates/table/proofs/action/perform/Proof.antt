@@ -1,4 +1,5 @@
 -- `perform` stores the effect of an accepted action, arm by arm. Assumes nothing.
+use mathlib.Core.Path.{_≡_}
 use native.Mathlib.Omega.{arith}
 use Rattle.table.proofs.CodeLaws.{past}
 use Rattle.table.proofs.PerformLaws.{does-read, does-write, does-barrier, does-mtoc, does-ctom, does-ctoc, does-drop, does-acquire, does-release}
@@ -171,11 +172,12 @@ returns-8 c = rw (c .before .before .before .before .match .keys8) (does-acquire
 same-length-12 : tie.Need-same-length-12
 same-length-12 c = search needs
 
-returns-9 : tie.Need-returns-9
-returns-9 c = rw (c .before .before .before .before .match .keys9) (does-release _ _ _ _ _ _ _ _ _ (c .before .before .before .before .before .before .before .before .pre .0) _ (c .before .before .unmark3 .ensures))
+-- the last arm has code 8
+release : (c : tie.At-match-rest) → c .before .before .before .before .args .code ≡ 8
+release c = omega (arith, past 8 _ (c .match .rest), c .before .before .before .before .pre .1)
 
-returns-10 : tie.Need-returns-10
-returns-10 c = absurd (omega (arith, past _ (c .match .rest), c .before .before .before .before .pre .1))
+returns-9 : tie.Need-returns-9
+returns-9 c = rw (release (c .before .before .before .before)) (does-release _ _ _ _ _ _ _ _ _ (c .before .before .before .before .before .before .before .before .pre .0) _ (c .before .before .unmark3 .ensures))
 
 pub perform-spec : {M : Type 1} → statement M
 perform-spec =
@@ -236,5 +238,4 @@ perform-spec =
     same-length-11
     returns-8
     same-length-12
-    returns-9
-    returns-10)
+    returns-9)
