@@ -4,8 +4,9 @@
     python3 tests/make_examples.py examples
 
 Board 0 measures, board 1 fits the matrix.  Cells 0 to 2 are patch means,
-cell 3 is the lamp state.  The same records stand in all five files; only the
-rule differs.  Prints each listing by the model, and checks the story.
+cell 3 is the lamp state.  The same records stand in five files; only the rule
+differs.  In a sixth an old value is read under rule 0 and no copy is stale at
+the end.  Prints each listing by the model, and checks what is told of them.
 """
 import os
 import sys
@@ -46,6 +47,8 @@ def main():
     made = {"lamp-change-rule-%d.ccs" % k: session(k, 2, [0, 0, 0, 1], story())
             for k in range(5)}
     made["refused.ccs"] = made["lamp-change-rule-4.ccs"][:-4]
+    made["none-stale-old-read.ccs"] = session(0, 2, [7], [
+        record(MTOC, 1), record(WRITE, 0, value=9), record(CTOM, 0), record(READ, 1), record(DROP, 1)])
     for name, data in made.items():
         with open(os.path.join(where, name), "wb") as f:
             f.write(data)
@@ -79,6 +82,8 @@ def main():
             assert writes == [12 if k == 2 else 14] * 3         # not taken in:
             assert reads == [(0, v) for v in OLD] and stale == 0    # still the latest
     assert model.listing(made["refused.ccs"]) == b"refused 19\n"
+    lines = model.listing(made["none-stale-old-read.ccs"]).splitlines()
+    assert lines[4] == b"3 0 0 7" and lines[-1] == b"5 5 0"
 
 
 if __name__ == "__main__":

@@ -1,18 +1,24 @@
 #!/usr/bin/env python3
-"""Makes 242 session files and their listings by the model (tests/model.py).
+"""Gathers session files, and makes their listings by the model (tests/model.py).
 
     python3 tests/make_replay.py INPUT OUTPUT
 
 INPUT: the session files one behind the other, each with its length before it
 as 4 bytes little-endian.  OUTPUT: their listings one behind the other.
+The files are 242 that are made here, those of the model's self-test, those of
+examples/, and those on which the advice of docs/LISTING.md is tried
+(tests/advice.py).  Fails if the self-test or a piece of advice does.
 The seed is fixed, so the same two files come out each time.
 """
+import glob
 import os
 import random
 import sys
 from collections import Counter
 
-sys.path.insert(0, os.path.dirname(os.path.abspath(__file__)))
+HERE = os.path.dirname(os.path.abspath(__file__))
+sys.path.insert(0, HERE)
+import advice  # noqa: E402
 import model  # noqa: E402
 from model import (ACQUIRE, BARRIER, CTOC, CTOM, DROP, MTOC, READ, RELEASE,  # noqa: E402
                    WRITE, record, session)
@@ -169,13 +175,31 @@ def long():
             session(4, 16, list(range(512)), [record(READ, 0)] * 4097)]
 
 
+def self_tested():
+    """Runs the model's self-test; the files that it lists."""
+    asked, listing = [], model.listing
+    model.listing = lambda file: asked.append(file) or listing(file)
+    model.self_test()
+    model.listing = listing
+    return asked
+
+
+def examples():
+    for path in sorted(glob.glob(os.path.join(HERE, "..", "examples", "*.ccs"))):
+        with open(path, "rb") as f:
+            yield f.read()
+
+
 def main():
     if len(sys.argv) != 3:
         sys.exit(__doc__)
+    given = {"self-test": self_tested(), "made": files(), "examples": list(examples()), "advice": advice.sessions()}
+    assert all(given.values())
     answers, refused, by_rule, stale = Counter(), Counter(), Counter(), Counter()
     taken, records = Counter(), 0
     inp, outp = [], []
-    for f in files():
+    for f in [*given["made"], *given["self-test"], *given["examples"], *given["advice"]]:
+        assert len(f) < 65536
         text = model.listing(f)
         inp += [len(f).to_bytes(4, "little"), f]
         outp.append(text)
@@ -193,7 +217,6 @@ def main():
             if answer == 0:
                 taken[rule, code] += 1
     inp, outp = b"".join(inp), b"".join(outp)
-    assert len(inp) < 250_000
     assert all(answers[k] >= 5 for k in (0, 3, 4, 5, 6, *range(8, 17)))
     assert all(refused[k] >= 5 for k in (1, 2, 17, 18, 19))
     assert answers[7] == 0
@@ -205,7 +228,8 @@ def main():
 
     def say(*words):
         print(*words, file=sys.stderr)
-    say("session files:", sum(by_rule.values()) + sum(refused.values()), " accepted:", sum(by_rule.values()),
+    say("session files:", ", ".join("%d %s" % (len(fs), what) for what, fs in given.items()))
+    say("in all:", sum(by_rule.values()) + sum(refused.values()), " accepted:", sum(by_rule.values()),
         " refused:", sum(refused.values()))
     say("input bytes:", len(inp), " output bytes:", len(outp), " records run:", records)
     say("number  records  files refused")

@@ -5,31 +5,31 @@ use Prim.Native.Nat.{ℕ, zero, suc, _+_, _-_, _*_, _/_, _%_, _<_, _≤_}
 use native.Mathlib.Omega.{arith}
 use native.Mathlib.Decide.{decLt}
 use lib.ListN.{length, getD, length-append}
-use Rattle.listing.specs.Decimal.{digitsIn, digits, valueFrom, valueOf}
+use Rattle.listing.specs.Decimal.{digitsIn, digits, readsFrom, readsAs}
 use Rattle.listing.proofs.DigitLaws.{small-in, more-in}
 
 -- one digit more
-value-more : (before : ℕ) (ds : List ℕ) (d : ℕ) → valueFrom before (ds ++ (d ∷ [])) ≡ 10 * valueFrom before ds + (d - 48)
-unfolding valueFrom
+value-more : (before : ℕ) (ds : List ℕ) (d : ℕ) → readsFrom before (ds ++ (d ∷ [])) ≡ 10 * readsFrom before ds + (d - 48)
+unfolding readsFrom
 value-more before [] d = refl
 value-more before (e ∷ ds) d = value-more (10 * before + (e - 48)) ds d
 
-value-one : (d : ℕ) → valueOf ((48 + d) ∷ []) ≡ d
-unfolding valueFrom
+value-one : (d : ℕ) → readsAs ((48 + d) ∷ []) ≡ d
+unfolding readsFrom
 value-one d = omega arith
 
-value-in : (f n : ℕ) → n ≤ f → valueOf (digitsIn f n) ≡ n
+value-in : (f n : ℕ) → n ≤ f → readsAs (digitsIn f n) ≡ n
 value-in zero n h = rw (small-in zero n (omega arith)) (value-one n)
 value-in (suc f) n h = go (value-in f (n / 10)) (decLt n 10)
   where
-    go : (n / 10 ≤ f → valueOf (digitsIn f (n / 10)) ≡ n / 10) → Dec (n < 10) → valueOf (digitsIn (suc f) n) ≡ n
+    go : (n / 10 ≤ f → readsAs (digitsIn f (n / 10)) ≡ n / 10) → Dec (n < 10) → readsAs (digitsIn (suc f) n) ≡ n
     go r (yes a) = rw (small-in (suc f) n a) (value-one n)
     go r (no a) =
-        let i : valueOf (digitsIn f (n / 10)) ≡ n / 10 = r (omega arith) in
+        let i : readsAs (digitsIn f (n / 10)) ≡ n / 10 = r (omega arith) in
         let e : 10 * (n / 10) + (48 + n % 10 - 48) ≡ n = omega arith in
         rw (more-in f n (omega arith), value-more 0 (digitsIn f (n / 10)) (48 + n % 10), i) e
 
-pub reads-back : (n : ℕ) → valueOf (digits n) ≡ n
+pub reads-back : (n : ℕ) → readsAs (digits n) ≡ n
 unfolding digits
 reads-back n = value-in n n (omega arith)
 

@@ -17,8 +17,8 @@ use Rattle.sessions.specs.FileRefusals.{headRefusals, bodyRefusals, recordsBad,
 use Rattle.sessions.specs.Run.{endOf, logOf, acceptedIn, countBelow, sumBelow, staleIn, staleOf}
 use Rattle.listing.specs.Decimal.{digitsIn, digits}
 use Rattle.listing.specs.Example.{session, listing}
-use Rattle.listing.specs.Listing.{line, recordLine, recordLines, runListing, listingOf}
+use Rattle.listing.specs.Listing.{behind, line, recordLines, runListing, listingOf}
 
 pub whole-listing : listingOf session ≡ listing
-unfolding ruleOf ruleNumber procOf hasBoard withBoard withoutBoard hasAnother lowestBoard sliceNumber width cellByCell every inRange sizesGood currentValue cellBy first freshTable effect valueOf storeBy storesBy numberOf refuses tests guard from upTo askedBy everyBoard meets sound malformed missing offBoard seen refusals answerTo answer tableAfter tableAfterAll log isWrite followed latestWrite le16 le32 marked values actionAt actions headRefusals bodyRefusals recordsBad bodyBad readRefusals endOf logOf acceptedIn countBelow sumBelow staleIn staleOf digitsIn digits line recordLine recordLines runListing listingOf ones onesIn trailingZeros
+unfolding ruleOf ruleNumber procOf hasBoard withBoard withoutBoard hasAnother lowestBoard sliceNumber width cellByCell every inRange sizesGood currentValue cellBy first freshTable effect valueOf storeBy storesBy numberOf refuses tests guard from upTo askedBy everyBoard meets sound malformed missing offBoard seen refusals answerTo answer tableAfter tableAfterAll log isWrite followed latestWrite le16 le32 marked values actionAt actions headRefusals bodyRefusals recordsBad bodyBad readRefusals endOf logOf acceptedIn countBelow sumBelow staleIn staleOf digitsIn digits behind line recordLines runListing listingOf ones onesIn trailingZeros
 whole-listing = refl

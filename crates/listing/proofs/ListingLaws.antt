@@ -2,7 +2,7 @@
 use mathlib.Core.Path.{_≡_, refl, ap, sym, _∙_}
 use mathlib.Core.Logic.{_≢_}
 use mathlib.Core.List.{List, [], _∷_, _++_, append-assoc, append-nil}
-use Prim.Native.Nat.{ℕ, suc, _+_, _-_, _*_, _/_, _<_, _≤_}
+use Prim.Native.Nat.{ℕ, suc, _+_, _<_, _≤_}
 use native.Mathlib.Omega.{arith}
 use native.Mathlib.Numerals.{add-one}
 use borrow.Author.Tests.{lt-ltb, le-ltb, eq-eqb, ne-eqb}
@@ -10,11 +10,11 @@ use lib.ListN.{length, getD, take, drop, length-append, take-append-drop}
 use lib.Seq.{take-suc, length-take-le, take-length}
 use Rattle.protocol.specs.Runs.{Line}
 use Rattle.sessions.specs.Written.{written}
-use Rattle.sessions.specs.File.{ruleIn, boardsIn, cellsIn}
 use Rattle.sessions.specs.Run.{logOf, noLine, lineOfRecord, acceptedIn, staleOf}
 use Rattle.sessions.proofs.WrittenLaws.{written-more, in-front}
-use Rattle.listing.specs.Listing.{firstLine, lastLine, line, recordLine, recordLines, refusedWord, refusedListing, runListing, refusalOf, listingOf}
-use Rattle.listing.specs.Code.{Told}
+use Rattle.listing.specs.Listing.{firstLine, lastLine, line, recordNumbers, recordLines, refusedWord, refusedListing, runListing, refusalOf, listingOf}
+use Rattle.listing.specs.Code.{HeadIn, Told}
+use Rattle.listing.specs.declared.head.Head.{Head}
 use Rattle.listing.specs.declared.Listed.{Listed}
 use Rattle.listing.specs.Statements.{Puts, Lists}
 
@@ -25,9 +25,9 @@ unfolding recordLines
 lines-append index [] ls = let z : index + 0 ≡ index = omega arith in rw z
 lines-append index (k ∷ ks) ls =
     let z : index + suc (length ks) ≡ suc index + length ks = omega arith in
-    rw (lines-append (suc index) ks ls, z) (sym (append-assoc (recordLine index k) (recordLines (suc index) ks) (recordLines (suc index + length ks) ls)))
+    rw (lines-append (suc index) ks ls, z) (sym (append-assoc (line (recordNumbers index k)) (recordLines (suc index) ks) (recordLines (suc index + length ks) ls)))
 
-one-more : (index : ℕ) (ls : List Line) (l : Line) → recordLines index (ls ++ (l ∷ [])) ≡ recordLines index ls ++ recordLine (index + length ls) l
+one-more : (index : ℕ) (ls : List Line) (l : Line) → recordLines index (ls ++ (l ∷ [])) ≡ recordLines index ls ++ line (recordNumbers (index + length ls) l)
 unfolding recordLines
 one-more index ls l = lines-append index ls (l ∷ []) ∙ rw append-nil
 
@@ -45,16 +45,16 @@ module _ (file : List ℕ) (from count : ℕ) (numbers values : List ℕ) (t : T
   up-to-all = rw (sym (t .lines)) (ap (recordLines 0) (take-length (logOf file)))
 
   module _ (i : ℕ) (h : i < count) where
-    -- the line of the next record, by the slices
+    -- the line of the next record
     abbrev pub next : List ℕ
-    next = line i (getD file (from + 9 * i) 0 ∷ getD numbers i 0 ∷ getD values i 0 ∷ [])
+    next = line (recordNumbers i (lineOfRecord file i))
 
     up-to-more : upTo file (i + 1) ≡ upTo file i ++ next
-    unfolding upTo recordLine lineOfRecord
+    unfolding upTo lineOfRecord
     up-to-more =
         let inside : i < length (logOf file) = omega (arith, t .lines) in
         let n : 0 + length (take i (logOf file)) ≡ i = omega (arith, length-take-le i (logOf file) (omega arith)) in
-        rw (add-one, take-suc (logOf file) i noLine inside, one-more 0 (take i (logOf file)) (getD (logOf file) i noLine), n, t .codes i h, t .numbers-are i h, t .values-are i h)
+        rw (add-one, take-suc (logOf file) i noLine inside, one-more 0 (take i (logOf file)) (getD (logOf file) i noLine), n)
 
     pub length-more : length (upTo file (i + 1)) ≡ length (upTo file i) + length next
     length-more = ap length up-to-more ∙ length-append (upTo file i) next
@@ -92,14 +92,14 @@ module _ (file old : List ℕ) (r : Listed) (out : List ℕ) where
 
 -- ---- the one line of a refused file
 
-pub length-refused : (number : ℕ) → length (refusedListing number) ≡ 8 + length (line number [])
+pub length-refused : (number : ℕ) → length (refusedListing number) ≡ 8 + length (line (number ∷ []))
 unfolding refusedListing
-length-refused number = length-append (refusedWord ++ (32 ∷ [])) (line number [])
+length-refused number = length-append (refusedWord ++ (32 ∷ [])) (line (number ∷ []))
 
-pub written-refused : (number : ℕ) (old : List ℕ) → 8 + length (line number []) ≤ length old →
-    written (line number []) 8 (written (refusedWord ++ (32 ∷ [])) 0 old) ≡ written (refusedListing number) 0 old
+pub written-refused : (number : ℕ) (old : List ℕ) → 8 + length (line (number ∷ [])) ≤ length old →
+    written (line (number ∷ [])) 8 (written (refusedWord ++ (32 ∷ [])) 0 old) ≡ written (refusedListing number) 0 old
 unfolding refusedListing
-written-refused number old h = written-more (refusedWord ++ (32 ∷ [])) (line number []) 0 old h
+written-refused number old h = written-more (refusedWord ++ (32 ∷ [])) (line (number ∷ [])) 0 old h
 
 -- ---- the lines of a run, with the first line's and the last line's numbers
 
@@ -121,19 +121,28 @@ module _ (file : List ℕ) where
       ∙ written-more ((firstLine file) ++ ls) (lastLine file) 0 old (omega (arith, length-run, length-append (firstLine file) ls))
       ∙ ap (λ (l : List ℕ). written l 0 old) (append-assoc (firstLine file) ls (lastLine file))
 
-  module _ (boards cells accepted stale : ℕ) (s : (boards ≡ boardsIn file) × (cells ≡ cellsIn file)) (a : accepted ≡ acceptedIn (logOf file)) (z : stale ≡ staleOf file) where
-    -- the records, as the code counts them
-    abbrev count : ℕ
-    count = (length file - (9 + 4 * cells)) / 9
+  -- how it is measured and put, part by part
+  module _ (head : Head) (accepted stale : ℕ) (s : HeadIn file head) (a : accepted ≡ acceptedIn (logOf file)) (z : stale ≡ staleOf file) where
+    abbrev first : List ℕ
+    first = line (head .rule ∷ head .boards ∷ head .cells ∷ [])
 
-    pub long-run : (x y w : ℕ) → x ≡ length (line (ruleIn file) (boards ∷ cells ∷ [])) → y ≡ length (recordLines 0 (logOf file)) → w ≡ length (line count (accepted ∷ stale ∷ [])) →
-        x + y + w ≡ length (runListing file)
-    long-run x y w p q r = rw (p, q, r, s .0, s .1, a, z) (sym length-run)
+    abbrev last : List ℕ
+    last = line (head .count ∷ accepted ∷ stale ∷ [])
 
-    pub put-run : (first last : ℕ) (old out₁ out₂ out₃ : List ℕ) → length (runListing file) ≤ length old →
-        first ≡ 0 + length (line (ruleIn file) (boards ∷ cells ∷ [])) → out₁ ≡ written (line (ruleIn file) (boards ∷ cells ∷ [])) 0 old →
-        last ≡ first + length (recordLines 0 (logOf file)) → out₂ ≡ written (recordLines 0 (logOf file)) first out₁ →
-        out₃ ≡ written (line count (accepted ∷ stale ∷ [])) last out₂ → out₃ ≡ written (runListing file) 0 old
-    put-run first last old out₁ out₂ out₃ h f p l q r =
-        let f′ : first ≡ length (firstLine file) = f ∙ rw (s .0, s .1) (omega arith) in
-        r ∙ rw (q, p, s .0, s .1, a, z) (written-run first last old f′ l h)
+    is-first : first ≡ firstLine file
+    is-first = rw (s .rule-is, s .boards-are, s .cells-are)
+
+    is-last : last ≡ lastLine file
+    is-last = rw (s .count-is, a, z)
+
+    pub length-parts : length first + length (recordLines 0 (logOf file)) + length last ≡ length (runListing file)
+    length-parts = omega (arith, length-run, ap length is-first, ap length is-last)
+
+    pub put-run : (x y w : ℕ) (old out₁ out₂ out₃ : List ℕ) → length (runListing file) ≤ length old →
+        x ≡ 0 + length first → out₁ ≡ written first 0 old →
+        y ≡ x + length (recordLines 0 (logOf file)) → out₂ ≡ written (recordLines 0 (logOf file)) x out₁ →
+        w ≡ y + length last → out₃ ≡ written last y out₂ →
+        (w ≡ length (runListing file)) × (out₃ ≡ written (runListing file) 0 old)
+    put-run x y w old out₁ out₂ out₃ h e₁ p₁ e₂ p₂ e₃ p₃ =
+        let f : x ≡ length (firstLine file) = omega (arith, ap length is-first) in
+        (omega (arith, length-parts), p₃ ∙ rw (p₂, p₁, is-first, is-last) (written-run x y old f e₂ h))

@@ -1,5 +1,5 @@
 -- The listing of a run has at most 94,232 bytes, and `list` never answers 20 where that many are lent. Assumes nothing.
-use mathlib.Core.Path.{_≡_, _∙_}
+use mathlib.Core.Path.{_≡_, ap, _∙_}
 use mathlib.Core.List.{List, [], _∷_}
 use Prim.Native.Nat.{ℕ, suc, _+_, _-_, _*_, _<_, _≤_}
 use native.Mathlib.Omega.{arith}
@@ -16,24 +16,29 @@ use Rattle.sessions.proofs.LogLaws.{logged}
 use Rattle.sessions.proofs.SmallRun.{log-of-bytes, accepted-at-most, stale-at-most}
 use Rattle.listing.specs.declared.Listed.{Listed}
 use Rattle.listing.specs.Statements.{Lists}
-use Rattle.listing.specs.Listing.{recordLine, recordLines, runListing, refusalOf, listingOf}
+use Rattle.listing.specs.Decimal.{digits}
+use Rattle.listing.specs.Listing.{line, recordNumbers, recordLines, runListing, refusalOf, listingOf}
 use Rattle.listing.proofs.DigitLaws.{fewer}
-use Rattle.listing.proofs.LineLaws.{length-three, length-four}
+use Rattle.listing.proofs.LineLaws.{no-line, length-line}
 use Rattle.listing.proofs.ListingLaws.{length-run}
+
+-- ---- one line
+
+length-three : (a b c : ℕ) → length (line (a ∷ b ∷ c ∷ [])) ≡ length (digits a) + length (digits b) + length (digits c) + 3
+length-three a b c = omega (arith, length-line a (b ∷ c ∷ []), length-line b (c ∷ []), length-line c [], ap length no-line)
 
 -- ---- the lines of the records
 
 -- an index below 4,096, a code below 256, a number up to 16, a value below 2^32, and four bytes between and behind: 4 + 3 + 2 + 10 + 4
-line-short : (index : ℕ) (l : Line) → index < 4096 → l .action .code < 256 → l .told .number ≤ 16 → l .told .value < 4294967296 → length (recordLine index l) ≤ 23
-unfolding recordLine
+line-short : (index : ℕ) (l : Line) → index < 4096 → l .action .code < 256 → l .told .number ≤ 16 → l .told .value < 4294967296 → length (line (recordNumbers index l)) ≤ 23
 line-short index l h c n v =
-    omega (arith, length-four index (l .action .code) (l .told .number) (l .told .value), fewer 3 index (omega arith), fewer 2 (l .action .code) (omega arith), fewer 1 (l .told .number) (omega arith), fewer 9 (l .told .value) (omega arith))
+    omega (arith, length-line index (l .action .code ∷ l .told .number ∷ l .told .value ∷ []), length-three (l .action .code) (l .told .number) (l .told .value), fewer 3 index (omega arith), fewer 2 (l .action .code) (omega arith), fewer 1 (l .told .number) (omega arith), fewer 9 (l .told .value) (omega arith))
 
 lines-short : (index : ℕ) (ls : List Line) → index + length ls ≤ 4096 → SmallLines 4294967296 ls → length (recordLines index ls) ≤ 23 * length ls
 unfolding recordLines
 lines-short index [] h s = omega arith
 lines-short index (l ∷ ls) h s =
-    omega (arith, length-append (recordLine index l) (recordLines (suc index) ls), line-short index l (omega arith) (s .0) (s .1) (s .2), lines-short (suc index) ls (omega arith) (s .3))
+    omega (arith, length-append (line (recordNumbers index l)) (recordLines (suc index) ls), line-short index l (omega arith) (s .0) (s .1) (s .2), lines-short (suc index) ls (omega arith) (s .3))
 
 -- ---- a run
 

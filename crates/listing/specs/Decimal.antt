@@ -14,9 +14,9 @@ unfoldable pub digits : ℕ → List ℕ
 digits n = digitsIn n n
 
 -- the number that digits write, where the digits before them write `before`
-unfoldable pub valueFrom : (before : ℕ) → List ℕ → ℕ
-valueFrom before [] = before
-valueFrom before (d ∷ ds) = valueFrom (10 * before + (d - 48)) ds
+unfoldable pub readsFrom : (before : ℕ) → List ℕ → ℕ
+readsFrom before [] = before
+readsFrom before (d ∷ ds) = readsFrom (10 * before + (d - 48)) ds
 
-abbrev pub valueOf : List ℕ → ℕ
-valueOf ds = valueFrom 0 ds
+abbrev pub readsAs : List ℕ → ℕ
+readsAs ds = readsFrom 0 ds

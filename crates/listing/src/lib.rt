@@ -2,10 +2,12 @@
 ghost use Rattle.listing.specs.Statements.{Lists};
 
 mod decimal;
+mod head;
 mod lent;
 mod line;
 mod lister;
 mod records;
+mod run;
 
 // How long a listing is; the number is 20 where there is no room for it, else 0.
 pub struct Listed {

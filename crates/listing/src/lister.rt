@@ -1,7 +1,8 @@
-// The listing of a file that is refused, and of one that is run.
+// The listing of a file that is refused, and of one that is run, where there is room for it.
 ghost use mathlib.Core.Path.{_≡_};
 ghost use mathlib.Core.List.{[], _∷_, _++_};
 ghost use Prim.Native.Nat.{_≤_};
+ghost use lib.Dec.{leb};
 ghost use lib.ListN.{length};
 ghost use Rattle.protocol.specs.Slices.{tableOf};
 ghost use Rattle.sessions.specs.Written.{written};
@@ -11,7 +12,7 @@ ghost use Rattle.listing.specs.Code.{RunTold, Sized};
 use crate::Listed;
 use crate::decimal;
 use crate::line;
-use crate::records;
+use crate::run;
 
 // The word `refused` and a blank.
 fn put_word(out: &mut [u8])
@@ -41,14 +42,32 @@ fn list_refused(number: u8, out: &mut [u8]) -> Listed
         };
     }
     put_word(out);
-    line::put_one(out, 8, number as usize);
+    line::put_line(out, 8, &[number as usize]);
     Listed {
         number: protocol::ACCEPTED,
         length,
     }
 }
 
-// The lines of a file that is run.
+// Whether so many bytes have room for the lines of a run. The longest listing has 94,232: only a shorter slice asks how long this one is.
+fn has_room(
+    file: &[u8],
+    numbers: &[u8],
+    values: &[u32],
+    accepted: usize,
+    stale: usize,
+    bytes: usize,
+) -> bool
+    requires { ⌜ RunTold (now file) (now numbers) (now values) accepted stale ⌝ }
+    ensures { λ r. ⌜ r ≡ leb (length (runListing (now (file .entry)))) bytes ⌝ }
+{
+    if bytes >= 94232 {
+        return true;
+    }
+    run::run_width(file, numbers, values, accepted, stale) <= bytes
+}
+
+// The lines of a run.
 fn list_run(
     file: &[u8],
     numbers: &[u8],
@@ -60,22 +79,13 @@ fn list_run(
     requires { ⌜ RunTold (now file) (now numbers) (now values) accepted stale ⌝ }
     ensures { λ r. ⌜ Puts (runListing (now (file .entry))) (now (out .entry)) r (now (out .exit)) ⌝ }
 {
-    let rule = file[5] as usize;
-    let sizes = sessions::sizes_in(file);
-    let from = 9 + 4 * sizes.cells;
-    let count = (file.len() - from) / 9;
-    let length = line::width_three(rule, sizes.boards, sizes.cells)
-        + records::records_width(file, from, count, numbers, values)
-        + line::width_three(count, accepted, stale);
-    if out.len() < length {
+    if !has_room(file, numbers, values, accepted, stale, out.len()) {
         return Listed {
             number: protocol::NO_ROOM,
             length: 0,
         };
     }
-    let first = line::put_three(out, 0, rule, sizes.boards, sizes.cells);
-    let last = records::put_records(file, from, count, numbers, values, out, first);
-    line::put_three(out, last, count, accepted, stale);
+    let length = run::put_run(file, numbers, values, accepted, stale, out);
     Listed {
         number: protocol::ACCEPTED,
         length,

@@ -1,11 +1,11 @@
 -- `put_records` has written the lines of the records below `i`. Assumes nothing.
 use native.Mathlib.Omega.{arith}
-use mathlib.Core.Path.{_≡_, refl, ap, _∙_}
-use mathlib.Core.List.{[], _∷_, List}
-use lib.ListN.{length, getD}
+use mathlib.Core.Path.{_≡_, refl, ap, sym, _∙_}
+use mathlib.Core.List.{List}
+use lib.ListN.{length}
 use Rattle.sessions.specs.Written.{written}
 use Rattle.listing.specs.Listing.{line}
-use Prim.Native.Nat.{_+_, _-_, _*_, _≤_, ℕ}
+use Prim.Native.Nat.{_+_, _-_, _≤_, ℕ}
 use Rattle.sessions.proofs.WrittenLaws.{written-none}
 use Rattle.listing.proofs.ListingLaws.{upTo, up-to-none, up-to-all, length-more, within, written-up-to}
 use Rattle.listing.proofs.records.put_records.Statement.{statement}
@@ -20,38 +20,18 @@ abbrev μ-loop : tie.MeasureT-loop
 loop-holds : tie.Need-loop-holds Inv-loop μ-loop
 loop-holds c = rw up-to-none (omega arith, refl, omega arith, written-none _ _)
 
-mul-put-four : tie.Need-mul-put-four Inv-loop μ-loop
-mul-put-four c = omega (arith, c .before .before .before .before .before .before .before .pre .0 .few, c .before .before .before .before .before .before .before .pre .0 .few-before)
+record-numbers-requires : tie.Need-record-numbers-requires Inv-loop μ-loop
+record-numbers-requires c κs = (c .before .before .before .before .before .before .before .pre .0, c .before .loop-test .taken)
 
-add-put-four : tie.Need-add-put-four Inv-loop μ-loop
-add-put-four c = omega (arith, c .before .before .before .before .before .before .before .pre .0 .few, c .before .before .before .before .before .before .before .pre .0 .few-before)
+slice-aggregate-put-line : tie.Need-slice-aggregate-put-line Inv-loop μ-loop
+slice-aggregate-put-line c = sym (ap length (c .before .record-numbers .ensures))
 
-shared-slice-read-put-four : tie.Need-shared-slice-read-put-four Inv-loop μ-loop
-shared-slice-read-put-four c = omega (arith, c .before .before .before .before .before .before .before .before .pre .0 .whole)
-
-cast-put-four : tie.Need-cast-put-four Inv-loop μ-loop
-cast-put-four c = omega (arith, c .shared-slice-known4 .given (c .before .before .before .before .before .before .before .before .args .from + 9 * c .before .before .before .loop .i))
-
-shared-slice-read-put-four-2 : tie.Need-shared-slice-read-put-four-2 Inv-loop μ-loop
-shared-slice-read-put-four-2 c = omega (arith, c .before .before .before .before .before .before .before .before .before .pre .0 .room-numbers)
-
-cast-put-four-2 : tie.Need-cast-put-four-2 Inv-loop μ-loop
-cast-put-four-2 c = omega (arith, c .shared-slice-known5 .given (c .before .before .before .before .loop .i))
-
-mul-put-four-2 : tie.Need-mul-put-four-2 Inv-loop μ-loop
-mul-put-four-2 c = omega (arith, c .before .before .before .before .before .before .before .before .before .pre .0 .few)
-
-shared-slice-read-put-four-3 : tie.Need-shared-slice-read-put-four-3 Inv-loop μ-loop
-shared-slice-read-put-four-3 c = omega (arith, c .before .before .before .before .before .before .before .before .before .before .pre .0 .room-values)
-
-cast-put-four-3 : tie.Need-cast-put-four-3 Inv-loop μ-loop
-cast-put-four-3 c = omega (arith, c .shared-slice-known6 .given (c .before .before .before .before .before .loop .i))
-
-put-four-requires : tie.Need-put-four-requires Inv-loop μ-loop
-put-four-requires c κs = let l = c .before .before .before .before .before .loop in
-    let p = c .before .before .before .before .before .before .before .before .before .before .pre in
-    let h = c .before .before .before .before .loop-test .taken in
-    omega (arith, l .inv .1, l .inv .2, p .1, within _ _ _ _ _ (p .0) (l .i) h, length-more _ _ _ _ _ (p .0) (l .i) h)
+put-line-requires : tie.Need-put-line-requires Inv-loop μ-loop
+put-line-requires c κs = let l = c .before .before .before .before .loop in
+    let p = c .before .before .before .before .before .before .before .before .before .pre in
+    let h = c .before .before .before .loop-test .taken in
+    let e = ap (λ (ns : List ℕ). length (line ns)) (c .before .record-numbers .ensures) in
+    omega (arith, l .inv .1, l .inv .2, p .1, e, within _ _ _ _ _ (p .0) (l .i) h, length-more _ _ _ _ _ (p .0) (l .i) h)
 
 add-i : tie.Need-add-i Inv-loop μ-loop
 add-i c = omega arith
@@ -60,12 +40,13 @@ loop-less : tie.Need-loop-less Inv-loop μ-loop
 loop-less c = omega arith
 
 loop-again : tie.Need-loop-again Inv-loop μ-loop
-loop-again c = let l = c .before .before .before .before .before .before .before .before .loop in
-    let a = c .before .before .before .before .before .before .before .before .before .before .before .before .before .args in
-    let p = c .before .before .before .before .before .before .before .before .before .before .before .before .before .pre in
-    let h = c .before .before .before .before .before .before .before .loop-test .taken in
-    let q = c .before .before .put-four in
-    (omega arith, q .kept .0 ∙ l .inv .1, omega (arith, q .ensures .0, l .inv .2, length-more _ _ _ _ _ (p .0) (l .i) h), q .ensures .1 ∙ ap (written (line (l .i) (getD (a .file .now) (a .from + 9 * l .i) 0 ∷ getD (a .numbers .now) (l .i) 0 ∷ getD (a .values .now) (l .i) 0 ∷ [])) (l .next)) (l .inv .3) ∙ written-up-to _ _ _ _ _ (p .0) (l .i) h (l .next) (a .at) (a .out .now) (l .inv .2) (p .1))
+loop-again c = let l = c .before .before .before .before .before .before .before .loop in
+    let a = c .before .before .before .before .before .before .before .before .before .before .before .before .args in
+    let p = c .before .before .before .before .before .before .before .before .before .before .before .before .pre in
+    let h = c .before .before .before .before .before .before .loop-test .taken in
+    let q = c .before .before .put-line in
+    let e = ap line (c .before .before .before .before .record-numbers .ensures) in
+    (omega arith, q .kept .0 ∙ l .inv .1, omega (arith, q .ensures .0, ap length e, l .inv .2, length-more _ _ _ _ _ (p .0) (l .i) h), q .ensures .1 ∙ rw (e, l .inv .3) (written-up-to _ _ _ _ _ (p .0) (l .i) h (l .next) (a .at) (a .out .now) (l .inv .2) (p .1)))
 
 same-length : tie.Need-same-length Inv-loop μ-loop
 same-length c = c .before .loop .inv .1
@@ -83,16 +64,9 @@ put-records-spec =
     Inv-loop
     μ-loop
     loop-holds
-    mul-put-four
-    add-put-four
-    shared-slice-read-put-four
-    cast-put-four
-    shared-slice-read-put-four-2
-    cast-put-four-2
-    mul-put-four-2
-    shared-slice-read-put-four-3
-    cast-put-four-3
-    put-four-requires
+    record-numbers-requires
+    slice-aggregate-put-line
+    put-line-requires
     add-i
     loop-less
     loop-again

@@ -1,9 +1,10 @@
 -- `records_width` has summed the lines of the records below `i`. Assumes nothing.
 use native.Mathlib.Omega.{arith}
 use mathlib.Core.Path.{_≡_, sym, ap, _∙_}
+use mathlib.Core.List.{List}
 use lib.ListN.{length}
-use borrow.Author.Needs.{needs}
-use Prim.Native.Nat.{_+_, _-_, _*_, _≤_}
+use Prim.Native.Nat.{ℕ, _-_, _*_, _≤_}
+use Rattle.listing.specs.Listing.{line}
 use Rattle.listing.proofs.ListingLaws.{upTo, up-to-none, up-to-all, length-more}
 use Rattle.listing.proofs.records.records_width.Statement.{statement}
 use Rattle.listing.proofs.records.records_width.Tie as tie
@@ -17,38 +18,17 @@ abbrev μ-loop : tie.MeasureT-loop
 loop-holds : tie.Need-loop-holds Inv-loop μ-loop
 loop-holds c = (omega arith, omega arith, sym (ap length (up-to-none _)))
 
-mul-width-four : tie.Need-mul-width-four Inv-loop μ-loop
-mul-width-four c = omega (arith, c .before .before .before .before .before .pre .few, c .before .before .before .before .before .pre .few-before)
+record-numbers-requires : tie.Need-record-numbers-requires Inv-loop μ-loop
+record-numbers-requires c κs = (c .before .before .before .before .before .pre, c .loop-test .taken)
 
-add-width-four : tie.Need-add-width-four Inv-loop μ-loop
-add-width-four c = omega (arith, c .before .before .before .before .before .pre .few, c .before .before .before .before .before .pre .few-before)
+slice-aggregate-line-width : tie.Need-slice-aggregate-line-width Inv-loop μ-loop
+slice-aggregate-line-width c = sym (ap length (c .before .record-numbers .ensures))
 
-shared-slice-read-width-four : tie.Need-shared-slice-read-width-four Inv-loop μ-loop
-shared-slice-read-width-four c = omega (arith, c .before .before .before .before .before .before .pre .whole)
-
-cast-width-four : tie.Need-cast-width-four Inv-loop μ-loop
-cast-width-four c = omega (arith, c .shared-slice-known4 .given (c .before .before .before .before .before .before .args .from + 9 * c .before .before .loop .i))
-
-shared-slice-read-width-four-2 : tie.Need-shared-slice-read-width-four-2 Inv-loop μ-loop
-shared-slice-read-width-four-2 c = omega (arith, c .before .before .before .before .before .before .before .pre .room-numbers)
-
-cast-width-four-2 : tie.Need-cast-width-four-2 Inv-loop μ-loop
-cast-width-four-2 c = omega (arith, c .shared-slice-known5 .given (c .before .before .before .loop .i))
-
-mul-width-four-2 : tie.Need-mul-width-four-2 Inv-loop μ-loop
-mul-width-four-2 c = omega (arith, c .before .before .before .before .before .before .before .pre .few)
-
-shared-slice-read-width-four-3 : tie.Need-shared-slice-read-width-four-3 Inv-loop μ-loop
-shared-slice-read-width-four-3 c = omega (arith, c .before .before .before .before .before .before .before .before .pre .room-values)
-
-cast-width-four-3 : tie.Need-cast-width-four-3 Inv-loop μ-loop
-cast-width-four-3 c = omega (arith, c .shared-slice-known6 .given (c .before .before .before .before .loop .i))
-
-width-four-requires : tie.Need-width-four-requires Inv-loop μ-loop
-width-four-requires c κs = search needs
+line-width-requires : tie.Need-line-width-requires Inv-loop μ-loop
+line-width-requires c κs = omega (arith, ap length (c .before .record-numbers .ensures))
 
 add-sum : tie.Need-add-sum Inv-loop μ-loop
-add-sum c = omega (arith, c .before .before .before .before .before .loop .inv .1, c .width-four .ensures .1, c .before .before .before .before .before .before .before .before .before .pre .few)
+add-sum c = omega (arith, c .before .before .before .before .loop .inv .1, c .line-width .ensures .1, c .before .before .before .before .before .before .before .before .pre .few)
 
 add-i : tie.Need-add-i Inv-loop μ-loop
 add-i c = omega arith
@@ -57,8 +37,10 @@ loop-less : tie.Need-loop-less Inv-loop μ-loop
 loop-less c = omega arith
 
 loop-again : tie.Need-loop-again Inv-loop μ-loop
-loop-again c = let l = c .before .before .before .before .before .loop in
-    (omega arith, omega (arith, l .inv .1, c .width-four .ensures .1), omega (arith, l .inv .2, c .width-four .ensures .0, length-more _ _ _ _ _ (c .before .before .before .before .before .before .before .before .before .pre) (l .i) (c .before .before .before .before .loop-test .taken)))
+loop-again c = let l = c .before .before .before .before .loop in
+    let w = c .line-width .ensures in
+    let e = ap (λ (ns : List ℕ). length (line ns)) (c .before .before .record-numbers .ensures) in
+    (omega arith, omega (arith, l .inv .1, w .1), omega (arith, l .inv .2, w .0, e, length-more _ _ _ _ _ (c .before .before .before .before .before .before .before .before .pre) (l .i) (c .before .before .before .loop-test .taken)))
 
 returns : tie.Need-returns Inv-loop μ-loop
 returns c = let l = c .before .loop in
@@ -72,16 +54,9 @@ records-width-spec =
     Inv-loop
     μ-loop
     loop-holds
-    mul-width-four
-    add-width-four
-    shared-slice-read-width-four
-    cast-width-four
-    shared-slice-read-width-four-2
-    cast-width-four-2
-    mul-width-four-2
-    shared-slice-read-width-four-3
-    cast-width-four-3
-    width-four-requires
+    record-numbers-requires
+    slice-aggregate-line-width
+    line-width-requires
     add-sum
     add-i
     loop-less
