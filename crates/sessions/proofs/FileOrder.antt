@@ -9,7 +9,7 @@ use lib.Dec.{eqb, ltb}
 use lib.ListN.{length, getD}
 use borrow.Author.Tests.{eq-eqb, eqb-true, ltb-false, le-ltb, not-false}
 use Rattle.protocol.specs.declared.Answer.{Answer}
-use Rattle.protocol.specs.Slices.{Table, tableOf, inRange, sizesGood}
+use Rattle.protocol.specs.Slices.{Table, inRange, sizesGood}
 use Rattle.protocol.proofs.Booleans.{clash, and-left, and-right, and-both, or-left, or-right}
 use Rattle.protocol.proofs.InWords.{range-exactly, sizes-exactly}
 use Rattle.sessions.specs.File.{le16, marked, versionIn, ruleIn, boardsIn, cellsIn}
@@ -202,8 +202,8 @@ module _ (rule boards cells : ℕ) (starting records old : List ℕ) (r : Answer
   unfolding writeRefusals bodyRefusals
   write-answers = rw (s .number-is) (in-order nothing nothing nothing (startingSizes boards cells (length starting)) (atMost rule 4) (wholeRecords (length records)) (atMost (9 + 4 * cells + length records) (length old)))
 
-module _ (file m k w numbers values : List ℕ) (r : Report) (m′ k′ w′ numbers′ values′ : List ℕ) (s : Runs file m k w numbers values r m′ k′ w′ numbers′ values′) where
-  pub run-answers : InOrder (r .number) (9 ≤ length file) (MarkBytes file) (VersionBytes file) (Limits (boardsByte file) (cellsBytes file) × Lengths (boardsByte file) (cellsBytes file) (tableOf m k w))
+module _ (file : List ℕ) (t : Table) (numbers values : List ℕ) (r : Report) (t′ : Table) (numbers′ values′ : List ℕ) (s : Runs file t numbers values r t′ numbers′ values′) where
+  pub run-answers : InOrder (r .number) (9 ≤ length file) (MarkBytes file) (VersionBytes file) (Limits (boardsByte file) (cellsBytes file) × Lengths (boardsByte file) (cellsBytes file) t)
       (ruleByte file ≤ 4) (WholeRecords (9 + 4 * cellsBytes file) (length file)) (Room (9 + 4 * cellsBytes file) (length file) (length numbers) (length values))
   unfolding runRefusals headRefusals bodyRefusals le16
-  run-answers = rw (s .number-is) (in-order (atMost 9 (length file)) (mark file) (version file) (tableSizes (boardsIn file) (cellsIn file) (tableOf m k w)) (atMost (ruleIn file) 4) (body file) (answerRoom (countIn file) (length numbers) (length values)))
+  run-answers = rw (s .number-is) (in-order (atMost 9 (length file)) (mark file) (version file) (tableSizes (boardsIn file) (cellsIn file) t) (atMost (ruleIn file) 4) (body file) (answerRoom (countIn file) (length numbers) (length values)))

@@ -6,9 +6,10 @@ use Prim.Native.Nat.{ℕ}
 use lib.ListN.{length}
 use borrow.Author.Tests.{ne-eqb}
 use Rattle.protocol.specs.declared.Answer.{Answer}
-use Rattle.protocol.specs.Slices.{tableOf}
+use Rattle.protocol.specs.Slices.{Table}
 use Rattle.protocol.specs.First.{Refusal, firstNumber, FirstIs, NoneHolds}
 use Rattle.protocol.proofs.FirstLaws.{first-refused, first-number}
+use Rattle.table.specs.Statements.{Holds}
 use Rattle.sessions.specs.FileRefusals.{readRefusals, writeRefusals, runRefusals}
 use Rattle.sessions.specs.declared.Report.{Report}
 use Rattle.sessions.specs.Statements.{Reads, Writes, Runs}
@@ -38,15 +39,14 @@ module _ (rule boards cells : ℕ) (starting records old : List ℕ) (r : Answer
   pub write-changes-nothing : r .number ≢ 0 → (out ≡ old) × (r .value ≡ 0)
   write-changes-nothing h = (rw (ne-eqb (r .number) 0 h) at (s .bytes), s .value-is)
 
-module _ (file m k w numbers values : List ℕ) (r : Report) (m′ k′ w′ numbers′ values′ : List ℕ) (s : Runs file m k w numbers values r m′ k′ w′ numbers′ values′) where
-  pub run-refused : (n : ℕ) → n ≢ 0 → (r .number ≡ n) ↔ FirstIs n (runRefusals file (tableOf m k w) (length numbers) (length values))
-  run-refused n h = rw (s .number-is) (refused-by (runRefusals file (tableOf m k w) (length numbers) (length values)) n h)
+module _ (file : List ℕ) (t : Table) (numbers values : List ℕ) (r : Report) (t′ : Table) (numbers′ values′ : List ℕ) (s : Runs file t numbers values r t′ numbers′ values′) where
+  pub run-refused : (n : ℕ) → n ≢ 0 → (r .number ≡ n) ↔ FirstIs n (runRefusals file t (length numbers) (length values))
+  run-refused n h = rw (s .number-is) (refused-by (runRefusals file t (length numbers) (length values)) n h)
 
-  pub run-accepted : (r .number ≡ 0) ↔ NoneHolds (runRefusals file (tableOf m k w) (length numbers) (length values))
-  run-accepted = rw (s .number-is) (none-refuses (runRefusals file (tableOf m k w) (length numbers) (length values)) (all-run file (tableOf m k w) (length numbers) (length values)))
+  pub run-accepted : (r .number ≡ 0) ↔ NoneHolds (runRefusals file t (length numbers) (length values))
+  run-accepted = rw (s .number-is) (none-refuses (runRefusals file t (length numbers) (length values)) (all-run file t (length numbers) (length values)))
 
-  pub run-changes-nothing : r .number ≢ 0 → (m′ ≡ m) × (k′ ≡ k) × (w′ ≡ w) × (numbers′ ≡ numbers) × (values′ ≡ values) × (r .accepted ≡ 0) × (r .stale ≡ 0)
+  pub run-changes-nothing : r .number ≢ 0 → Holds t′ t × (numbers′ ≡ numbers) × (values′ ≡ values) × (r .accepted ≡ 0) × (r .stale ≡ 0)
   run-changes-nothing h =
       let e = ne-eqb (r .number) 0 h in
-      let t = rw e at (s .table-is) in
-      (t .holds-main, t .holds-copies, t .holds-masks, rw e at (s .numbers-are), rw e at (s .values-are), rw e at (s .accepted-is), rw e at (s .stale-is))
+      (rw e at (s .table-is), rw e at (s .numbers-are), rw e at (s .values-are), rw e at (s .accepted-is), rw e at (s .stale-is))

@@ -58,7 +58,7 @@ module _ (file : List ℕ) where
 
 -- ---- of a run that is not refused
 
-module _ (file m k w numbers values : List ℕ) (r : Report) (m′ k′ w′ numbers′ values′ : List ℕ) (s : Runs file m k w numbers values r m′ k′ w′ numbers′ values′) (ok : r .number ≡ 0) where
+module _ (file : List ℕ) (t : Table) (numbers values : List ℕ) (r : Report) (t′ : Table) (numbers′ values′ : List ℕ) (s : Runs file t numbers values r t′ numbers′ values′) (ok : r .number ≡ 0) where
   pub in-slice : (f : Line → ℕ) (old new : List ℕ) → new ≡ accepting (r .number) (map f (logOf file) ++ drop (countIn file) old) old → (i : ℕ) → i < countIn file → getD new i 0 ≡ f (lineOfRecord file i)
   unfolding lineOfRecord
   in-slice f old new e i h = rw (e, eq-eqb (r .number) 0 ok) (getD-front f (logOf file) (drop (countIn file) old) i (rw (logged file) h))

@@ -10,7 +10,7 @@ use lib.ListN.{length, getD, drop, take}
 use borrow.Author.Tests.{eq-eqb}
 use Rattle.protocol.specs.declared.Action.{Action}
 use Rattle.protocol.specs.Masks.{hasBoard}
-use Rattle.protocol.specs.Slices.{Table, tableOf}
+use Rattle.protocol.specs.Slices.{Table}
 use Rattle.protocol.specs.Cell.{Cell, copyAt, liveMask, cellOf}
 use Rattle.protocol.specs.Step.{answer, tableAfter}
 use Rattle.protocol.specs.Fresh.{freshTable}
@@ -80,7 +80,7 @@ module _ (file : List ℕ) where
 
 -- ---- of a run that is not refused
 
-module _ (file m k w numbers values : List ℕ) (r : Report) (m′ k′ w′ numbers′ values′ : List ℕ) (s : Runs file m k w numbers values r m′ k′ w′ numbers′ values′) (ok : r .number ≡ 0) where
+module _ (file : List ℕ) (t : Table) (numbers values : List ℕ) (r : Report) (t′ : Table) (numbers′ values′ : List ℕ) (s : Runs file t numbers values r t′ numbers′ values′) (ok : r .number ≡ 0) where
   -- demand 3: an accepted Read among the records answers the latest accepted write before it
   pub run-reads-latest : CoherentRule (ruleIn file) → (i : ℕ) → i < countIn file → getD numbers′ i 0 ≡ 0 → actionAt (recordsIn file) (9 * i) .code ≡ 0 →
       getD values′ i 0
@@ -88,14 +88,14 @@ module _ (file m k w numbers values : List ℕ) (r : Report) (m′ k′ w′ num
   unfolding acceptedRead isRead
   run-reads-latest co i h n c =
       let a = its-action file i h in
-      let told = in-slice file m k w numbers values r m′ k′ w′ numbers′ values′ s ok (λ line. line .told .number) numbers numbers′ (s .numbers-are) i h in
+      let told = in-slice file t numbers values r t′ numbers′ values′ s ok (λ line. line .told .number) numbers numbers′ (s .numbers-are) i h in
       let read : acceptedRead (lineOfRecord file i) ≡ true = rw (sym told, n, a, c) in
-      in-slice file m k w numbers values r m′ k′ w′ numbers′ values′ s ok (λ line. line .told .value) values values′ (s .values-are) i h
+      in-slice file t numbers values r t′ numbers′ values′ s ok (λ line. line .told .value) values values′ (s .values-are) i h
       ∙ rw a at (session-reads-latest file co (take i (logOf file)) (drop (suc i) (logOf file)) (lineOfRecord file i) (cut-at file i h) read)
 
   pub run-not-stale : 2 ≤ ruleIn file → r .stale ≡ 0
   run-not-stale l =
-      s .stale-is ∙ rw (eq-eqb (r .number) 0 ok) (session-not-stale file l (runnable file (tableOf m k w) (length numbers) (length values) (sym (s .number-is) ∙ ok) .readable-too .ruled))
+      s .stale-is ∙ rw (eq-eqb (r .number) 0 ok) (session-not-stale file l (runnable file t (length numbers) (length values) (sym (s .number-is) ∙ ok) .readable-too .ruled))
 
   pub run-never-7 : (i : ℕ) → i < countIn file → getD numbers′ i 0 ≢ 7
-  run-never-7 i h e = session-never-7 file i (sym (in-slice file m k w numbers values r m′ k′ w′ numbers′ values′ s ok (λ line. line .told .number) numbers numbers′ (s .numbers-are) i h) ∙ e)
+  run-never-7 i h e = session-never-7 file i (sym (in-slice file t numbers values r t′ numbers′ values′ s ok (λ line. line .told .number) numbers numbers′ (s .numbers-are) i h) ∙ e)

@@ -61,8 +61,8 @@ pub fn perform(
     cell: usize,
     value: u32,
 ) -> u32
-    requires { ⌜ Room boards cells cell board to (now main) (now copies) (now masks) × (code ≤ 8) ⌝ }
-    ensures { λ r. ⌜ Performs boards cells (now (main .entry)) (now (copies .entry)) (now (masks .entry)) (actionOf code board to cell value) r (now (main .exit)) (now (copies .exit)) (now (masks .exit)) ⌝ }
+    requires { ⌜ Room boards cells cell board to (tableOf (now main) (now copies) (now masks)) × (code ≤ 8) ⌝ }
+    ensures { λ r. ⌜ Performs boards cells (tableOf (now (main .entry)) (now (copies .entry)) (now (masks .entry))) (actionOf code board to cell value) r (tableOf (now (main .exit)) (now (copies .exit)) (now (masks .exit))) ⌝ }
 {
     let home = cell * boards + board;
     let there = cell * boards + to;

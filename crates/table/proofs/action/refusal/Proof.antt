@@ -4,8 +4,9 @@ use mathlib.Core.Bool.{false}
 use native.Mathlib.Omega.{arith}
 use Rattle.protocol.specs.Step.{malformed, missing}
 use borrow.Author.Tests.{not-true, not-false}
+use Rattle.protocol.specs.Slices.{tableOf}
 use Rattle.protocol.proofs.RefusalOrder.{answers-1, answers-2, answers-5, answers-6}
-use Rattle.table.proofs.ReadyLaws.{copy-in, copy-small, row-in, masks-in}
+use Rattle.table.proofs.ReadyLaws.{main-in, row-in, copy-in, copy-small, masks-in}
 use Rattle.table.proofs.ActionLaws.{formed, unformed, Cleared, cleared-ready, cleared-boards, cleared-7, dirty-below, cleared-guard}
 use Rattle.protocol.proofs.NumberLaws.{code-fits}
 use borrow.Author.Needs.{needs}
@@ -17,7 +18,7 @@ formed-at : (c : tie.Else3) → let a = c .before .before .before .before .befor
 formed-at c = formed _ _ (sym (c .before .form .ensures) ∙ c .if3 .left)
 
 -- past the sixth test
-cleared : (c : tie.Else5) → let a = c .before .before .before .before .before .before .before .before .before .before .before .before .args in Cleared (a .rule) (a .boards) (a .cells) (a .main .now) (a .copies .now) (a .masks .now) (a .a)
+cleared : (c : tie.Else5) → let a = c .before .before .before .before .before .before .before .before .before .before .before .before .args in Cleared (a .rule) (a .boards) (a .cells) (tableOf (a .main .now) (a .copies .now) (a .masks .now)) (a .a)
 cleared c =
     record {
       sizes = sym (c .before .before .before .before .before .before .before .before .sizes-good .ensures) ∙ not-false _ (c .before .before .before .before .before .before .before .if1 .left);
@@ -41,7 +42,7 @@ form-requires : tie.Need-form-requires
 form-requires c κs = search needs
 
 returns-3 : tie.Need-returns-3
-returns-3 c = unformed _ _ _ _ _ _ _ (sym (c .before .before .before .before .sizes-good .ensures) ∙ not-false _ (c .before .before .before .if1 .left)) (c .before .before .if2 .left) _ (c .before .form .ensures) (c .if3 .taken)
+returns-3 c = unformed _ _ _ _ _ (sym (c .before .before .before .before .sizes-good .ensures) ∙ not-false _ (c .before .before .before .if1 .left)) (c .before .before .if2 .left) _ (c .before .form .ensures) (c .if3 .taken)
 
 off-board-requires : tie.Need-off-board-requires
 off-board-requires c κs = search needs
@@ -56,42 +57,42 @@ returns-5 : tie.Need-returns-5
 returns-5 c = let f = formed-at (c .before .before .before .before) in sym (answers-6 _ _ _ _ _ .1 (sym (c .before .before .before .before .before .before .before .before .sizes-good .ensures) ∙ not-false _ (c .before .before .before .before .before .before .before .if1 .left), c .before .before .before .before .before .before .if2 .left, f .0, f .1, sym (c .before .before .before .off-board .ensures) ∙ c .before .before .if4 .left, c .if5 .taken))
 
 sound-requires : tie.Need-sound-requires
-sound-requires c κs = (cleared c .ruled, cleared-ready _ _ _ _ _ _ _ (cleared c))
+sound-requires c κs = (cleared c .ruled, cleared-ready _ _ _ _ _ (cleared c))
 
 returns-6 : tie.Need-returns-6
-returns-6 c = cleared-7 _ _ _ _ _ _ _ (cleared (c .before .before)) (sym (c .before .sound .ensures) ∙ not-true _ (c .if6 .taken))
+returns-6 c = cleared-7 _ _ _ _ _ (cleared (c .before .before)) (sym (c .before .sound .ensures) ∙ not-true _ (c .if6 .taken))
 
 masks-at-requires : tie.Need-masks-at-requires
-masks-at-requires c κs = let y = cleared-ready _ _ _ _ _ _ _ (cleared (c .before .before)) in (omega (arith, y .inside, y .few-cells), masks-in _ _ _ _ _ _ y)
+masks-at-requires c κs = let y = cleared-ready _ _ _ _ _ (cleared (c .before .before)) in (omega (arith, y .inside, y .few-cells), masks-in _ _ _ _ y)
 
 current-requires : tie.Need-current-requires
 current-requires c κs = let k = cleared (c .before .before .before) in
-    let y = cleared-ready _ _ _ _ _ _ _ k in
-    (y .few-boards, omega (arith, y .inside, y .few-cells), omega (arith, y .mains, y .inside), row-in _ _ _ _ _ _ y, dirty-below _ _ _ _ _ _ _ k (sym (c .before .before .sound .ensures) ∙ not-false _ (c .before .if6 .left)) _ _ _ (c .masks-at .ensures))
+    let y = cleared-ready _ _ _ _ _ k in
+    (y .few-boards, omega (arith, y .inside, y .few-cells), main-in _ _ _ _ y, row-in _ _ _ _ y, dirty-below _ _ _ _ _ k (sym (c .before .before .sound .ensures) ∙ not-false _ (c .before .if6 .left)) _ _ _ (c .masks-at .ensures))
 
 cast-board : tie.Need-cast-board
 cast-board c = search needs
 
 mul-copy : tie.Need-mul-copy
-mul-copy c = let k = cleared (c .before .before .before .before .before) in omega (arith, copy-small _ _ _ _ _ _ (cleared-ready _ _ _ _ _ _ _ k) _ (cleared-boards _ _ _ _ _ _ _ k .0))
+mul-copy c = let k = cleared (c .before .before .before .before .before) in omega (arith, copy-small _ _ _ _ (cleared-ready _ _ _ _ _ k) _ (cleared-boards _ _ _ _ _ k .0))
 
 add-copy : tie.Need-add-copy
-add-copy c = let k = cleared (c .before .before .before .before .before) in omega (arith, copy-small _ _ _ _ _ _ (cleared-ready _ _ _ _ _ _ _ k) _ (cleared-boards _ _ _ _ _ _ _ k .0))
+add-copy c = let k = cleared (c .before .before .before .before .before) in omega (arith, copy-small _ _ _ _ (cleared-ready _ _ _ _ _ k) _ (cleared-boards _ _ _ _ _ k .0))
 
 mul-copy-2 : tie.Need-mul-copy-2
-mul-copy-2 c = let k = cleared (c .before .before .before .before .before) in omega (arith, copy-small _ _ _ _ _ _ (cleared-ready _ _ _ _ _ _ _ k) _ (cleared-boards _ _ _ _ _ _ _ k .0))
+mul-copy-2 c = let k = cleared (c .before .before .before .before .before) in omega (arith, copy-small _ _ _ _ (cleared-ready _ _ _ _ _ k) _ (cleared-boards _ _ _ _ _ k .0))
 
 shared-slice-read-copy : tie.Need-shared-slice-read-copy
-shared-slice-read-copy c = let k = cleared (c .before .before .before .before .before .before) in copy-in _ _ _ _ _ _ (cleared-ready _ _ _ _ _ _ _ k) _ (cleared-boards _ _ _ _ _ _ _ k .0)
+shared-slice-read-copy c = let k = cleared (c .before .before .before .before .before .before) in copy-in _ _ _ _ (cleared-ready _ _ _ _ _ k) _ (cleared-boards _ _ _ _ _ k .0)
 
 guard-requires : tie.Need-guard-requires
 guard-requires c κs = let k = cleared (c .before .before .before .before .before .before) in
-    let b = cleared-boards _ _ _ _ _ _ _ k in
-    let f = cleared-ready _ _ _ _ _ _ _ k .few-boards in
+    let b = cleared-boards _ _ _ _ _ k in
+    let f = cleared-ready _ _ _ _ _ k .few-boards in
     (k .ruled, omega arith, omega arith, k .there, code-fits _ (k .formed))
 
 returns-7 : tie.Need-returns-7
-returns-7 c = cleared-guard _ _ _ _ _ _ _ (cleared (c .before .before .before .before .before .before .before)) (sym (c .before .before .before .before .before .before .sound .ensures) ∙ not-false _ (c .before .before .before .before .before .if6 .left)) _ _ _ (c .before .before .before .before .masks-at .ensures) _ _ (c .before .before .before .current .ensures) (c .guard .ensures)
+returns-7 c = cleared-guard _ _ _ _ _ (cleared (c .before .before .before .before .before .before .before)) (sym (c .before .before .before .before .before .before .sound .ensures) ∙ not-false _ (c .before .before .before .before .before .if6 .left)) _ _ _ (c .before .before .before .before .masks-at .ensures) _ _ (c .before .before .before .current .ensures) (c .guard .ensures)
 
 pub refusal-spec : {M : Type 1} → statement M
 refusal-spec =
