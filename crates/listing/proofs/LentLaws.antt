@@ -12,9 +12,9 @@ use lib.ListN.{length, getD}
 use lib.Seq.{getD-drop}
 use Rattle.protocol.specs.declared.Action.{Action}
 use Rattle.protocol.specs.First.{firstNumber}
-use Rattle.protocol.specs.Slices.{Table, tableOf, width, every, inRange, sizesGood}
+use Rattle.protocol.specs.Slices.{Slice, main, copies, masks, Table, tableOf, width, inRange, sizesGood}
 use Rattle.protocol.proofs.Booleans.{clash, or-right}
-use Rattle.protocol.proofs.InWords.{range-exactly}
+use Rattle.protocol.proofs.InWords.{range-exactly, sizes-exactly}
 use Rattle.sessions.specs.File.{marked, versionIn, ruleIn, boardsIn, cellsIn, actionAt}
 use Rattle.sessions.specs.FileRefusals.{headRefusals, bodyRefusals, recordsBad, bodyBad, readRefusals, countIn, runRefusals}
 use Rattle.sessions.specs.Run.{lineOfRecord}
@@ -75,36 +75,36 @@ module _ (file : List ℕ) (r : Sizes) (s : SizesIn file r) where
   pub in-range : inRange (r .boards) (r .cells) ≡ true → Lent file (r .boards) (r .cells)
   in-range h = let range = range-exactly (r .boards) (r .cells) .0 h in record { few-boards = range .0 .1; few-cells = range .1 .1; right = λ l e. sizes-are file r s l }
 
-module _ (file : List ℕ) (boards cells : ℕ) (l : Lent file boards cells) (m k w : List ℕ) (a : length m ≡ cells) (b : length k ≡ cells * boards) (c : length w ≡ cells * 3) where
-  pub fitting : Sized file (tableOf m k w)
-  unfolding sizesGood every width
-  fitting h = go (inRange (boardsIn file) (cellsIn file)) refl
-    where
-      go : (x : Bool) → inRange (boardsIn file) (cellsIn file) ≡ x → sizesGood (boardsIn file) (cellsIn file) (tableOf m k w) ≡ inRange (boardsIn file) (cellsIn file)
-      go false e = rw e
-      go true e =
-          let r = l .right h e in
-          let p : length m ≡ cellsIn file * 1 = omega (arith, r .1) in
-          let q : length k ≡ cellsIn file * boardsIn file = rw (r .0, r .1) at b in
-          let s : length w ≡ cellsIn file * 3 = rw (r .1) at c in
-          rw (e, eq-eqb (length m) (cellsIn file * 1) p, eq-eqb (length k) (cellsIn file * boardsIn file) q, eq-eqb (length w) (cellsIn file * 3) s)
+pub lengths : (boards cells : ℕ) (m k w : List ℕ) → length m ≡ cells → length k ≡ cells * boards → length w ≡ cells * 3 → (s : Slice) → length (tableOf m k w s) ≡ cells * width boards s
+lengths boards cells m k w a b c main = unfold width in omega arith
+lengths boards cells m k w a b c copies = unfold width in b
+lengths boards cells m k w a b c masks = unfold width in c
+
+pub fitting : (file : List ℕ) (boards cells : ℕ) → Lent file boards cells → (t : Table) → ((s : Slice) → length (t s) ≡ cells * width boards s) → Sized file t
+fitting file boards cells l t sized h = go (inRange (boardsIn file) (cellsIn file)) refl
+  where
+    go : (x : Bool) → inRange (boardsIn file) (cellsIn file) ≡ x → sizesGood (boardsIn file) (cellsIn file) t ≡ inRange (boardsIn file) (cellsIn file)
+    go false e = unfold sizesGood in rw e
+    go true e =
+        let r = l .right h e in
+        sizes-exactly (boardsIn file) (cellsIn file) t .1 (range-exactly (boardsIn file) (cellsIn file) .0 e, λ s. rw (r .0, r .1) at (sized s)) ∙ sym e
 
 pub few-copies : (file : List ℕ) (boards cells : ℕ) → Lent file boards cells → cells * boards ≤ 8192
 few-copies file boards cells l = omega (arith, mul-le-mul-left cells (l .few-boards), l .few-cells)
 
 -- ---- what a run that is not refused has told
 
-module _ (file m k w numbers values : List ℕ) (r : Report) (m′ k′ w′ numbers′ values′ : List ℕ) (s : Runs file m k w numbers values r m′ k′ w′ numbers′ values′) (ok : r .number ≡ 0)
+module _ (file : List ℕ) (t : Table) (numbers values : List ℕ) (r : Report) (t′ : Table) (numbers′ values′ : List ℕ) (s : Runs file t numbers values r t′ numbers′ values′) (ok : r .number ≡ 0)
     (e : refusalOf file ≡ 0) (a : 4096 ≤ length numbers′) (b : 4096 ≤ length values′) where
   code-of : (i : ℕ) → i < countIn file → getD file (9 + 4 * cellsIn file + 9 * i) 0 ≡ lineOfRecord file i .action .code
   unfolding actionAt
   code-of i h = sym (getD-drop (9 + 4 * cellsIn file) file (9 * i) 0) ∙ sym (ap (λ (x : Action). x .code) (its-action file i h))
 
   number-of : (i : ℕ) → i < countIn file → getD numbers′ i 0 ≡ lineOfRecord file i .told .number
-  number-of i h = in-slice file m k w numbers values r m′ k′ w′ numbers′ values′ s ok (λ l. l .told .number) numbers numbers′ (s .numbers-are) i h
+  number-of i h = in-slice file t numbers values r t′ numbers′ values′ s ok (λ l. l .told .number) numbers numbers′ (s .numbers-are) i h
 
   value-of : (i : ℕ) → i < countIn file → getD values′ i 0 ≡ lineOfRecord file i .told .value
-  value-of i h = in-slice file m k w numbers values r m′ k′ w′ numbers′ values′ s ok (λ l. l .told .value) values values′ (s .values-are) i h
+  value-of i h = in-slice file t numbers values r t′ numbers′ values′ s ok (λ l. l .told .value) values values′ (s .values-are) i h
 
   pub run-told : RunTold file numbers′ values′ (r .accepted) (r .stale)
   run-told =

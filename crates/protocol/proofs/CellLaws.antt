@@ -4,7 +4,7 @@ use mathlib.Core.Path.{_≡_, refl, sym, ap, _∙_, fun-ext}
 use mathlib.Core.Logic.{_≢_}
 use mathlib.Core.Bool.{Bool, true, false, cond, _&&_}
 use mathlib.Core.List.{List, [], _∷_}
-use Prim.Native.Nat.{ℕ, zero, suc, _*_, _<_, _≤_}
+use Prim.Native.Nat.{ℕ, _*_, _<_, _≤_}
 use native.Mathlib.Omega.{arith}
 use native.Mathlib.Decide.{ℕ-discrete}
 use lib.Dec.{eqb, ltb}
@@ -31,18 +31,15 @@ abbrev pub Fits : (boards : ℕ) → List Store → Type 0
 Fits boards [] = Unit {0}
 Fits boards (put s k v ∷ es) = (k < width boards s) × Fits boards es
 
-sliceAt : ℕ → Slice
-sliceAt zero = main
-sliceAt (suc zero) = copies
-sliceAt (suc (suc n)) = masks
+-- each slice stands in the list of slices at its number
+listed : (s : Slice) → (sliceNumber s < length slices) × (getD slices (sliceNumber s) main ≡ s)
+unfolding sliceNumber
+listed main = (omega arith, refl)
+listed copies = (omega arith, refl)
+listed masks = (omega arith, refl)
 
 same-slice : (s u : Slice) → sliceNumber s ≡ sliceNumber u → s ≡ u
-same-slice s u e = sym (back s) ∙ ap sliceAt e ∙ back u
-  where
-    back : (s : Slice) → sliceAt (sliceNumber s) ≡ s
-    back main = unfold sliceAt sliceNumber in refl
-    back copies = unfold sliceAt sliceNumber in refl
-    back masks = unfold sliceAt sliceNumber in refl
+same-slice s u e = sym (listed s .1) ∙ ap (λ (n : ℕ). getD slices n main) e ∙ listed u .1
 
 -- ---- lengths
 
@@ -64,22 +61,14 @@ length-stores places c t (e ∷ es) u = length-stores places c (storeBy places c
 
 pub sizes-of : (boards cells : ℕ) (t : Table) → sizesGood boards cells t ≡ true → Sized boards cells t
 unfolding sizesGood
-sizes-of boards cells t e s = eqb-true _ _ (at s)
+sizes-of boards cells t e s = eqb-true _ _ (rw (listed s .1) at (every-at slices test (sliceNumber s) main (listed s .0) (and-right (inRange boards cells) (every slices test) e)))
   where
     test : Slice → Bool
     test s = eqb (length (t s)) (cells * width boards s)
 
-    all : every slices test ≡ true
-    all = and-right (inRange boards cells) (every slices test) e
-
-    at : (s : Slice) → eqb (length (t s)) (cells * width boards s) ≡ true
-    at main = every-at slices test 0 main (omega arith) all
-    at copies = every-at slices test 1 main (omega arith) all
-    at masks = every-at slices test 2 main (omega arith) all
-
 pub same-sizes : (boards cells : ℕ) (t u : Table) → ((s : Slice) → length (u s) ≡ length (t s)) → sizesGood boards cells u ≡ sizesGood boards cells t
-unfolding sizesGood every
-same-sizes boards cells t u f = rw (f main, f copies, f masks)
+unfolding sizesGood
+same-sizes boards cells t u f = ap (λ (n : Slice → ℕ). inRange boards cells && every slices (λ s. eqb (n s) (cells * width boards s))) (fun-ext f)
 
 -- ---- one store
 

@@ -2,69 +2,72 @@
 -- it has the handout's value and next state, every other cell stays, and no other table has these. Assumes nothing.
 use mathlib.Core.Path.{_≡_, refl, sym, ap, _∙_, fun-ext}
 use mathlib.Core.Logic.{_≢_, _↔_}
-use mathlib.Core.Bool.{Bool, true, false, cond, _&&_, _||_, true≢false}
-use mathlib.Core.List.{List, [], _∷_, map}
+use mathlib.Core.Bool.{Bool, true, false, cond, not, _||_}
+use mathlib.Core.List.{List}
 use mathlib.Core.Option.{Option, some, none}
 use Prim.Native.Nat.{ℕ, zero, suc, _<_, _≤_}
 use native.Mathlib.Omega.{arith}
 use native.Mathlib.Decide.{ℕ-discrete, decLt}
 use lib.Dec.{eqb, leb}
-use borrow.Author.Tests.{not-false, ltb-false, leb-false, le-ltb, lt-leb, le-leb}
+use borrow.Author.Tests.{not-true, not-false, ltb-false, leb-false, le-ltb, lt-leb, le-leb}
 use Rattle.protocol.specs.declared.Action.{Action}
-use Rattle.protocol.specs.Names.{Rule, ruleOf, procOf}
+use Rattle.protocol.specs.Names.{Rule, Proc, ruleOf, procOf}
 use Rattle.protocol.specs.Masks.{hasBoard}
-use Rattle.protocol.specs.Slices.{Slice, main, copies, masks, Table, sizesGood, cellByCell, width}
+use Rattle.protocol.specs.Slices.{Slice, main, copies, masks, Table, sizesGood, every, cellByCell, width}
 use Rattle.protocol.specs.Cell.{Cell, copyAt, liveMask, cellOf}
 use Rattle.protocol.specs.Soundness.{sound}
-use Rattle.protocol.specs.First.{when, NoneHolds}
-use Rattle.protocol.specs.Guards.{Test, numberOf, refuses, tests, guard}
+use Rattle.protocol.specs.First.{Refusal}
+use Rattle.protocol.specs.Guards.{guard}
 use Rattle.protocol.specs.Effects.{effect}
 use Rattle.protocol.specs.Step.{malformed, offBoard, seen, refusals, answer, tableAfter}
 use Rattle.protocol.specs.Handout.{State, Guard, Effect, Value}
-use Rattle.protocol.specs.AsHandout.{asState, Stands, inHandout, NoOtherHolds}
-use Rattle.protocol.proofs.Booleans.{clash, and-both}
+use Rattle.protocol.specs.AsHandout.{asState, Stands, inHandout, OtherFails, NoOtherHolds}
+use Rattle.protocol.proofs.Booleans.{either, and-both}
 use Rattle.protocol.proofs.MaskLaws.{same-mask}
 use Rattle.protocol.proofs.HandoutLaws.{Among, not-nil}
+use Rattle.protocol.proofs.FirstLaws.{all-of, none-number, all-at}
 use Rattle.protocol.proofs.PlaceLaws.{by-cell}
 use Rattle.protocol.proofs.CellLaws.{stores, sizes-of, same-table, nothing-above}
 use Rattle.protocol.proofs.SoundExactly.{sound-exactly}
 use Rattle.protocol.proofs.GuardExactly.{guard-exactly}
 use Rattle.protocol.proofs.SoundKept.{next-state, next-value, sound-kept}
 use Rattle.protocol.proofs.NumberLaws.{code-fits, named-among, has-exactly}
-use Rattle.protocol.proofs.StepLaws.{guard-number, Accepted, accepted, accepted-value, cellAfter, step-sizes, step-here, step-there}
-use Rattle.protocol.proofs.Demand1.{accepted-exactly}
+use Rattle.protocol.proofs.StepLaws.{guard-every, Accepted, accepted, accepted-value, cellAfter, step-sizes, step-here, step-there}
+use Rattle.protocol.proofs.RefusalOrder.{answers-guard}
 
 -- ---- well formed, and on a sound cell
 
-in-guard : (n : ℕ) → (8 ≤ n) × (n ≤ 16) → inHandout n ≡ true
-unfolding inHandout
-in-guard n (l, h) = go (eqb n 4)
-  where
-    go : (b : Bool) → (b || leb 8 n && leb n 16) ≡ true
-    go true = refl
-    go false = and-both (leb 8 n) (leb n 16) (le-leb 8 n l) (le-leb n 16 h)
+-- the handout knows the refusal, or it does not hold
+abbrev quiet : Refusal → Bool
+quiet r = inHandout (r .answer .number) || not (r .holds)
 
-guard-quiet : (x : Cell) (ts : List Test) → NoOtherHolds (map (λ test. when (numberOf test) (refuses x test)) ts)
-guard-quiet x [] = tt
-guard-quiet x (t ∷ ts) = ((λ e. absurd (clash (in-guard (numberOf t) (guard-number t)) e)), guard-quiet x ts)
+quiet-guard : (x : Cell) (r : Rule) (a : Proc) → every (guard x r a) quiet ≡ true
+unfolding inHandout
+quiet-guard = guard-every quiet (λ n b l h. go (eqb n 4) (not b) (and-both (leb 8 n) (leb n 16) (le-leb 8 n l) (le-leb n 16 h)))
+  where
+    go : (four fails : Bool) {guarded : Bool} → guarded ≡ true → ((four || guarded) || fails) ≡ true
+    go true fails e = refl
+    go false fails e = rw e
 
 -- no refusal that the handout does not know of holds exactly when the action is well formed and its cell is sound
 pub no-other-exactly : (rule boards cells : ℕ) (t : Table) (a : Action) →
     NoOtherHolds (refusals rule boards cells (seen boards cells t (a .cell)) a)
     ↔ ((sizesGood boards cells t ≡ true) × (rule ≤ 4) × (malformed a ≡ false) × (offBoard boards a ≡ false) × (a .cell < cells) × (sound (ruleOf rule) boards (cellOf boards cells t (a .cell)) ≡ true))
-unfolding refusals seen inHandout guard
+unfolding refusals seen inHandout every
 no-other-exactly rule boards cells t a = (into, back)
   where
+    rs : List Refusal
+    rs = refusals rule boards cells (seen boards cells t (a .cell)) a
+
     into : NoOtherHolds (refusals rule boards cells (seen boards cells t (a .cell)) a) →
         (sizesGood boards cells t ≡ true) × (rule ≤ 4) × (malformed a ≡ false) × (offBoard boards a ≡ false) × (a .cell < cells) × (sound (ruleOf rule) boards (cellOf boards cells t (a .cell)) ≡ true)
-    into (n1, (n2, (n3, (n4, (n5, (n6, (n7, g))))))) = (not-false _ (n1 refl), ltb-false 4 rule (n2 refl), n3 refl, n5 refl, leb-false cells (a .cell) (n6 refl), not-false _ (n7 refl))
+    into k = let f = all-at (λ n b. inHandout n ≡ false → b ≡ false) (λ n e. refl) rs k in (not-false _ (f 1 refl), ltb-false 4 rule (f 2 refl), f 3 refl, f 5 refl, leb-false cells (a .cell) (f 6 refl), not-false _ (f 7 refl))
 
     back : (sizesGood boards cells t ≡ true) × (rule ≤ 4) × (malformed a ≡ false) × (offBoard boards a ≡ false) × (a .cell < cells) × (sound (ruleOf rule) boards (cellOf boards cells t (a .cell)) ≡ true) →
         NoOtherHolds (refusals rule boards cells (seen boards cells t (a .cell)) a)
-    back (z, r, m, o, l, s) = (
-      (λ e. rw z),
-      ((λ e. le-ltb 4 rule r), ((λ e. m), ((λ e. absurd (true≢false e)), ((λ e. o), ((λ e. lt-leb cells (a .cell) l), ((λ e. rw s), guard-quiet (cellOf boards cells t (a .cell)) (tests (ruleOf rule) (procOf a)))))))),
-    )
+    back (z, r, m, o, l, s) =
+        all-of OtherFails quiet (λ r e k. not-true _ (either (inHandout (r .answer .number)) (not (r .holds)) .0 e k)) rs
+        (rw (z, le-ltb 4 rule r, m, o, lt-leb cells (a .cell) l, s) (quiet-guard (cellOf boards cells t (a .cell)) (ruleOf rule) (procOf a)))
 
 pub formed : (rule boards cells : ℕ) (t : Table) (a : Action) → NoOtherHolds (refusals rule boards cells (seen boards cells t (a .cell)) a) →
     (rule ≤ 4) × (a .code ≤ 8) × Among boards (procOf a) × (sound (ruleOf rule) boards (cellOf boards cells t (a .cell)) ≡ true)
@@ -78,21 +81,19 @@ formed rule boards cells t a quiet =
 -- an action that the rule's module does not have has no guard, and is never accepted
 pub accepted-when-allowed : (rule boards cells : ℕ) (t : Table) (a : Action) → NoOtherHolds (refusals rule boards cells (seen boards cells t (a .cell)) a) →
     (answer rule boards cells t a .number ≡ 0) ↔ Guard boards (asState (cellOf boards cells t (a .cell))) (ruleOf rule) (procOf a)
-unfolding answer seen refusals inHandout
-accepted-when-allowed rule boards cells t a quiet = (
-  (λ e. accepted rule boards cells (seen boards cells t (a .cell)) a e .guarded),
-  λ g. accepted-exactly rule boards cells t a .1 (back quiet g),
-)
+unfolding answer seen
+accepted-when-allowed rule boards cells t a quiet = ((λ e. accepted rule boards cells (seen boards cells t (a .cell)) a e .guarded), back)
   where
     x : Cell
     x = cellOf boards cells t (a .cell)
 
-    back : NoOtherHolds (refusals rule boards cells (seen boards cells t (a .cell)) a) → Guard boards (asState x) (ruleOf rule) (procOf a) → NoneHolds (refusals rule boards cells (seen boards cells t (a .cell)) a)
-    back (n1, (n2, (n3, (n4, (n5, (n6, (n7, rest))))))) g =
+    back : Guard boards (asState x) (ruleOf rule) (procOf a) → answer rule boards cells t a .number ≡ 0
+    back g =
+        let w = no-other-exactly rule boards cells t a .0 quiet in
         let f = formed rule boards cells t a quiet in
         let S = sound-exactly (ruleOf rule) boards x .0 (f .3) in
         let k = guard-exactly boards x (ruleOf rule) (procOf a) (f .2) (S .0) (S .1) .1 g in
-        (n1 refl, (n2 refl, (n3 refl, (has-exactly rule a (f .0) (f .1) .1 (k .0), (n5 refl, (n6 refl, (n7 refl, k .1)))))))
+        answers-guard rule boards cells t a (w .0, w .1, w .2, has-exactly rule a (f .0) (f .1) .1 (k .0), w .3, w .4, w .5) ∙ none-number (guard x (ruleOf rule) (procOf a)) (k .1)
 
 -- ---- the handout's value and next state
 

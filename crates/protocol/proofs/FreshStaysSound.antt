@@ -3,11 +3,10 @@
 use mathlib.Core.Path.{_≡_}
 use mathlib.Core.Logic.{_≢_}
 use mathlib.Core.Bool.{true, false}
-use mathlib.Core.List.{List, [], _∷_}
+use mathlib.Core.List.{List}
 use mathlib.Core.Option.{none}
 use Prim.Native.Nat.{ℕ, _<_, _≤_}
 use native.Mathlib.Omega.{arith}
-use native.Mathlib.Decide.{ℕ-discrete}
 use lib.ListN.{length, getD}
 use Rattle.protocol.specs.declared.Action.{Action}
 use Rattle.protocol.specs.Names.{Rule, IncoherentMemory, GlobalImpl, CurrentCaches, ExclusiveLocks0, ExclusiveLocks, ruleOf}
@@ -15,7 +14,7 @@ use Rattle.protocol.specs.Masks.{hasBoard}
 use Rattle.protocol.specs.Slices.{Table, masks}
 use Rattle.protocol.specs.Cell.{Cell, copyAt, liveMask, cellOf}
 use Rattle.protocol.specs.Soundness.{sound}
-use Rattle.protocol.specs.Step.{answer, tableAfter}
+use Rattle.protocol.specs.Step.{answer}
 use Rattle.protocol.specs.Fresh.{freshTable}
 use Rattle.protocol.specs.Runs.{log, tableAfterAll, latestWrite}
 use Rattle.protocol.specs.Handout.{State, Inv2, Inv3, Inv4, Inv5, Inv6, Inv7, Invariants}
@@ -26,15 +25,14 @@ use Rattle.protocol.proofs.HandoutLaws.{inv1}
 use Rattle.protocol.proofs.CellAsState.{live-is, nil-is, copy-current}
 use Rattle.protocol.proofs.SoundExactly.{sound-exactly}
 use Rattle.protocol.proofs.NumberLaws.{by-rule}
-use Rattle.protocol.proofs.StepLaws.{step-there}
 use Rattle.protocol.proofs.FreshLaws.{fresh-copies, fresh-masks}
-use Rattle.protocol.proofs.Demand1.{refused-changes-nothing}
+use Rattle.protocol.proofs.RunLaws.{run-tells}
 use Rattle.protocol.proofs.RefusalOrder.{answers-7}
 use Rattle.protocol.proofs.Demand2.{sound-after}
 use Rattle.protocol.proofs.Demand3Reads.{latest-is-current}
 
 -- every cell is sound, those beyond the table too: they hold nothing
-abbrev Sound : (rule boards cells : ℕ) → Table → Type 0
+abbrev pub Sound : (rule boards cells : ℕ) → Table → Type 0
 Sound rule boards cells t = (c : ℕ) → sound (ruleOf rule) boards (cellOf boards cells t c) ≡ true
 
 -- ---- a fresh cell
@@ -83,21 +81,11 @@ fresh-sound rule boards starting c = sound-exactly (ruleOf rule) boards x .1 (st
       lockMaskIs0 = λ l. fresh-masks boards starting c 2;
     }
 
--- ---- every step keeps every cell sound
+-- ---- every run keeps every cell sound
 
-module _ (rule boards cells : ℕ) where
-  step-sound : (t : Table) (a : Action) → Sound rule boards cells t → Sound rule boards cells (tableAfter rule boards cells t a)
-  step-sound t a s c = go (ℕ-discrete c (a .cell)) (ℕ-discrete (answer rule boards cells t a .number) 0)
-    where
-      go : Dec (c ≡ a .cell) → Dec (answer rule boards cells t a .number ≡ 0) → sound (ruleOf rule) boards (cellOf boards cells (tableAfter rule boards cells t a) c) ≡ true
-      go (yes q) (yes e) = rw q (sound-after rule boards cells t a e)
-      go (yes q) (no n) = rw (refused-changes-nothing rule boards cells t a n .0) (s c)
-      go (no n) d = rw (step-there rule boards cells t a c n) (s c)
-
-  run-sound : (t : Table) (actions : List Action) → Sound rule boards cells t → Sound rule boards cells (tableAfterAll rule boards cells t actions)
-  unfolding tableAfterAll
-  run-sound t [] s = s
-  run-sound t (a ∷ rest) s = run-sound (tableAfter rule boards cells t a) rest (step-sound t a s)
+pub run-sound : (rule boards cells : ℕ) (t : Table) (actions : List Action) → Sound rule boards cells t → Sound rule boards cells (tableAfterAll rule boards cells t actions)
+run-sound rule boards cells t actions s c =
+    run-tells rule boards cells c (λ u x. sound (ruleOf rule) boards x ≡ true) (λ (u : Unit {0}) a. u) (λ u t a e f. sound-after rule boards cells t a e) tt t actions (s c)
 
 -- ---- the promises
 

@@ -2,7 +2,7 @@
 -- at most 16. Assumes nothing.
 use mathlib.Core.Path.{_≡_, refl}
 use mathlib.Core.Bool.{Bool, true, false, cond}
-use mathlib.Core.List.{List, [], _∷_, map}
+use mathlib.Core.List.{List, [], _∷_}
 use Prim.Native.Nat.{ℕ, _<_, _≤_}
 use native.Mathlib.Omega.{arith}
 use native.Mathlib.Decide.{ℕ-discrete}
@@ -14,16 +14,16 @@ use Rattle.protocol.specs.declared.Answer.{Answer}
 use Rattle.protocol.specs.Names.{Rule, Proc, Read, Write, Barrier, MtoC, CtoM, CtoC, Drop, Acquire, Release, ruleOf, procOf}
 use Rattle.protocol.specs.Slices.{sliceNumber, Table}
 use Rattle.protocol.specs.Cell.{Cell, mainValue, copyAt, cellOf}
-use Rattle.protocol.specs.First.{Refusal, when, first}
-use Rattle.protocol.specs.Guards.{Test, numberOf, refuses, tests, guard}
+use Rattle.protocol.specs.First.{Refusal, first, All}
 use Rattle.protocol.specs.Effects.{effect, valueOf}
 use Rattle.protocol.specs.Step.{Seen, seen, refusals, answerTo, answer, tableAfter}
 use Rattle.protocol.specs.Fresh.{freshTable}
 use Rattle.protocol.specs.Runs.{Line, log, isWrite}
 use Rattle.protocol.proofs.CurrentKept.{writtenBy}
+use Rattle.protocol.proofs.FirstLaws.{all-map}
 use Rattle.protocol.proofs.CellLaws.{store, stores}
 use Rattle.protocol.proofs.NumberLaws.{proc-writes}
-use Rattle.protocol.proofs.StepLaws.{guard-number, accepted, cellAfter, step-here, step-there}
+use Rattle.protocol.proofs.StepLaws.{Numbered, all-numbered, accepted, cellAfter, step-here, step-there}
 use Rattle.protocol.proofs.FreshLaws.{fresh-main, fresh-copies}
 
 -- ---- what is bounded
@@ -77,11 +77,7 @@ module _ (bound : ℕ) where
 
   -- ---- an answer
 
-  abbrev SmallRefusals : List Refusal → Type 0
-  SmallRefusals [] = Unit {0}
-  SmallRefusals (r ∷ rs) = SmallAnswer (r .answer) × SmallRefusals rs
-
-  first-small : (rs : List Refusal) (ok : Answer) → SmallRefusals rs → SmallAnswer ok → SmallAnswer (first rs ok)
+  first-small : (rs : List Refusal) (ok : Answer) → All (λ r. SmallAnswer (r .answer)) rs → SmallAnswer ok → SmallAnswer (first rs ok)
   unfolding first
   first-small [] ok s k = k
   first-small (r ∷ rs) ok s k = go (r .holds) (first-small rs ok (s .1) k)
@@ -90,17 +86,12 @@ module _ (bound : ℕ) where
       go true i = s .0
       go false i = i
 
-  guard-small : (x : Cell) (ts : List Test) → 0 < bound → SmallRefusals (map (λ test. when (numberOf test) (refuses x test)) ts)
-  guard-small x [] z = tt
-  guard-small x (t ∷ ts) z = ((guard-number t .1, z), guard-small x ts z)
-
   module _ (rule boards cells : ℕ) where
     answer-small : (s : Seen) (a : Action) → 0 < bound → SmallCell (s .cell) → SmallAnswer (answerTo rule boards cells s a)
-    unfolding answerTo refusals guard
+    unfolding answerTo
     answer-small s a z k =
-        first-small (refusals rule boards cells s a) _
-        (omega arith, (omega arith, (omega arith, (omega arith, (omega arith, (omega arith, (omega arith, guard-small (s .cell) (tests (ruleOf rule) (procOf a)) z)))))))
-        (omega arith, value-small (s .cell) (procOf a) z k)
+        let rs = refusals rule boards cells s a in
+        first-small rs _ (all-map Numbered _ (λ r n. (n .1, rw (n .2) z)) rs (all-numbered rule boards cells s a)) (omega arith, value-small (s .cell) (procOf a) z k)
 
     -- ---- a step
 

@@ -1,26 +1,27 @@
 -- What an accepted action rests on, and how a step looks from one cell. Assumes nothing.
 use mathlib.Core.Path.{_≡_, refl, ap}
 use mathlib.Core.Logic.{_≢_}
-use mathlib.Core.Bool.{Bool, true, false, cond}
+use mathlib.Core.Bool.{Bool, true, false, cond, _&&_}
 use mathlib.Core.List.{List, [], _∷_, map}
 use Prim.Native.Nat.{ℕ, _<_, _≤_}
 use native.Mathlib.Omega.{arith}
-use lib.Dec.{eqb}
-use borrow.Author.Tests.{eqb-true, ltb-false, leb-false, not-false}
+use lib.Dec.{eqb, leb}
+use borrow.Author.Tests.{eqb-true, ltb-false, leb-true, le-leb, leb-false, not-false}
 use Rattle.protocol.specs.declared.Action.{Action}
 use Rattle.protocol.specs.declared.Answer.{Answer}
-use Rattle.protocol.specs.Names.{ruleOf, procOf}
-use Rattle.protocol.specs.Slices.{Table, sizesGood, cellByCell}
+use Rattle.protocol.specs.Names.{Rule, Proc, ruleOf, procOf}
+use Rattle.protocol.specs.Slices.{Table, every, sizesGood, cellByCell}
 use Rattle.protocol.specs.Cell.{Cell, cellOf}
 use Rattle.protocol.specs.Soundness.{sound}
-use Rattle.protocol.specs.First.{when, NoneHolds}
+use Rattle.protocol.specs.First.{Refusal, when, All, Fails, NoneHolds}
 use Rattle.protocol.specs.Guards.{Test, notLive, isDirty, notDirty, dirtyElsewhere, onlyDirtyElsewhere, anotherCopy, lockedByAnother, lockHeld, lockNotHeld, notCurrent, stillLive}
 use Rattle.protocol.specs.Guards.{numberOf, refuses, tests, guard}
 use Rattle.protocol.specs.Effects.{effect, valueOf, storesIn}
 use Rattle.protocol.specs.Step.{Seen, seen, refusals, answerTo, answer, tableAfter}
 use Rattle.protocol.specs.Handout.{Guard}
 use Rattle.protocol.specs.AsHandout.{asState}
-use Rattle.protocol.proofs.FirstLaws.{Refuse, Without, first-accepted, first-none}
+use Rattle.protocol.proofs.Booleans.{and-left, and-right, and-both}
+use Rattle.protocol.proofs.FirstLaws.{all-map, all-of, Refuse, Silent, first-accepted, first-none, none-at, all-behind}
 use Rattle.protocol.proofs.HandoutLaws.{Among}
 use Rattle.protocol.proofs.PlaceLaws.{by-cell}
 use Rattle.protocol.proofs.CellLaws.{stores, sizes-of, same-sizes, length-stores, stores-here, stores-there}
@@ -45,19 +46,41 @@ guard-number (lockNotHeld p) = omega arith
 guard-number (notCurrent p) = omega arith
 guard-number (stillLive p) = omega arith
 
-guard-refuses : (x : Cell) (ts : List Test) → Refuse (map (λ test. when (numberOf test) (refuses x test)) ts)
-guard-refuses x [] = tt
-guard-refuses x (t ∷ ts) = let n : numberOf t ≢ 0 = omega (arith, guard-number t) in (n, refl, guard-refuses x ts)
+-- what a test says of every refusal with such a number it says of a guard's
+pub guard-every : (test : Refusal → Bool) → ((n : ℕ) (b : Bool) → 8 ≤ n → n ≤ 16 → test (when n b) ≡ true) → (x : Cell) (r : Rule) (a : Proc) → every (guard x r a) test ≡ true
+unfolding guard every
+guard-every test f x r a = go (tests r a)
+  where
+    go : (ts : List Test) → every (map (λ t. when (numberOf t) (refuses x t)) ts) test ≡ true
+    go [] = refl
+    go (t ∷ ts) = and-both (test (when (numberOf t) (refuses x t))) _ (f (numberOf t) (refuses x t) (guard-number t .0) (guard-number t .1)) (go ts)
 
--- no test of a guard has a number below 8
-pub guard-without : (n : ℕ) → n < 8 → (x : Cell) (ts : List Test) → Without n (map (λ test. when (numberOf test) (refuses x test)) ts)
-guard-without n l x [] = tt
-guard-without n l x (t ∷ ts) = let d : numberOf t ≢ n = omega (arith, guard-number t) in (d, guard-without n l x ts)
+-- a number from 1 to 16, and the value 0
+abbrev pub Numbered : Refusal → Type 0
+Numbered r = (1 ≤ r .answer .number) × (r .answer .number ≤ 16) × (r .answer .value ≡ 0)
+
+pub all-numbered : (rule boards cells : ℕ) (s : Seen) (a : Action) → All Numbered (refusals rule boards cells s a)
+unfolding refusals every
+all-numbered rule boards cells s a =
+    all-of Numbered numbered says (refusals rule boards cells s a)
+    (guard-every numbered (λ n b l h. rw (le-leb 1 n (omega arith), le-leb n 16 h)) (s .cell) (ruleOf rule) (procOf a))
+  where
+    numbered : Refusal → Bool
+    numbered r = (leb 1 (r .answer .number) && leb (r .answer .number) 16) && eqb (r .answer .value) 0
+
+    says : (r : Refusal) → numbered r ≡ true → Numbered r
+    says r e =
+        let f = and-left (leb 1 (r .answer .number) && leb (r .answer .number) 16) (eqb (r .answer .value) 0) e in (
+          leb-true _ _ (and-left (leb 1 (r .answer .number)) (leb (r .answer .number) 16) f),
+          leb-true _ _ (and-right (leb 1 (r .answer .number)) (leb (r .answer .number) 16) f),
+          eqb-true _ _ (and-right (leb 1 (r .answer .number) && leb (r .answer .number) 16) (eqb (r .answer .value) 0) e),
+        )
 
 pub all-refuse : (rule boards cells : ℕ) (s : Seen) (a : Action) → Refuse (refusals rule boards cells s a)
-unfolding refusals guard
-all-refuse rule boards cells s a =
-    (omega arith, refl, (omega arith, refl, (omega arith, refl, (omega arith, refl, (omega arith, refl, (omega arith, refl, (omega arith, refl, guard-refuses (s .cell) (tests (ruleOf rule) (procOf a)))))))))
+all-refuse rule boards cells s a = all-map Numbered _ (λ r k. let l = k .0 in omega arith) (refusals rule boards cells s a) (all-numbered rule boards cells s a)
+
+pub all-silent : (rule boards cells : ℕ) (s : Seen) (a : Action) → Silent (refusals rule boards cells s a)
+all-silent rule boards cells s a = all-map Numbered _ (λ r k. k .2) (refusals rule boards cells s a) (all-numbered rule boards cells s a)
 
 -- ---- what an accepted action rests on
 
@@ -72,19 +95,20 @@ pub record Accepted (rule boards cells : ℕ) (s : Seen) (a : Action) : Type 0 w
 module _ (rule boards cells : ℕ) (s : Seen) (a : Action) where
   none-accepts : NoneHolds (refusals rule boards cells s a) → Accepted rule boards cells s a
   unfolding refusals
-  none-accepts (n1, (n2, (n3, (n4, (n5, (n6, (n7, g))))))) =
-      let r = ltb-false 4 rule n2 in
-      let c = code-fits a n3 in
-      let l = named-among boards a c n5 in
-      let k = not-false _ n7 in
+  none-accepts none =
+      let f = none-at (refusals rule boards cells s a) none in
+      let c = code-fits a (f 3) in
+      let l = named-among boards a c (f 5) in
+      let k = not-false _ (f 7) in
       let S = sound-exactly (ruleOf rule) boards (s .cell) .0 k in
       record {
-        sizes = not-false _ n1;
+        sizes = not-false _ (f 1);
         codeFits = c;
         among = l;
-        inside = leb-false cells (a .cell) n6;
+        inside = leb-false cells (a .cell) (f 6);
         sounds = k;
-        guarded = guard-exactly boards (s .cell) (ruleOf rule) (procOf a) l (S .0) (S .1) .0 (has-exactly rule a r c .0 n4, g);
+        guarded = guard-exactly boards (s .cell) (ruleOf rule) (procOf a) l (S .0) (S .1) .0
+            (has-exactly rule a (ltb-false 4 rule (f 2)) c .0 (f 4), all-behind Fails 7 (refusals rule boards cells s a) none);
       }
 
   pub accepted : answerTo rule boards cells s a .number ≡ 0 → Accepted rule boards cells s a

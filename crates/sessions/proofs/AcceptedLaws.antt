@@ -1,41 +1,40 @@
 -- A session and a file that nothing refuses, in words. Assumes nothing.
-use mathlib.Core.Path.{_≡_, refl, sym, ap, _∙_}
+use mathlib.Core.Path.{_≡_, refl, _∙_}
 use mathlib.Core.Logic.{_↔_}
 use mathlib.Core.Bool.{Bool, true, false, not, _||_}
 use mathlib.Core.List.{List}
 use Prim.Native.Nat.{ℕ, _+_, _-_, _*_, _/_, _%_, _≤_}
-use native.Mathlib.Omega.{arith}
 use lib.Dec.{eqb, ltb}
 use lib.ListN.{length}
 use borrow.Author.Tests.{eq-eqb, eqb-true, ltb-false, le-ltb, not-false}
 use Rattle.protocol.specs.declared.Answer.{Answer}
-use Rattle.protocol.specs.Slices.{Table, inRange, sizesGood}
+use Rattle.protocol.specs.Slices.{Table, every, inRange, sizesGood}
 use Rattle.protocol.specs.First.{Refusal, firstNumber, NoneHolds}
 use Rattle.protocol.proofs.Booleans.{or-left, or-right}
-use Rattle.protocol.proofs.FirstLaws.{Refuse, first-accepted, first-none, first-number}
+use Rattle.protocol.proofs.FirstLaws.{Refuse, refuse-of, first-accepted, none-number, first-number}
 use Rattle.protocol.proofs.InWords.{range-exactly, sizes-exactly}
 use Rattle.sessions.specs.File.{marked, versionIn, ruleIn, boardsIn, cellsIn}
 use Rattle.sessions.specs.FileRefusals.{headRefusals, bodyRefusals, recordsBad, bodyBad, readRefusals, writeRefusals, countIn, runRefusals}
 
 -- no refusal holds exactly where the number is 0
 pub none-refuses : (rs : List Refusal) → Refuse rs → (firstNumber rs ≡ 0) ↔ NoneHolds rs
-none-refuses rs z = ((λ e. first-accepted ok refl rs z .0 (first-number rs ok refl ∙ e)), λ f. sym (first-number rs ok refl) ∙ ap (λ (a : Answer). a .number) (first-none rs ok f))
+none-refuses rs z = ((λ e. first-accepted ok refl rs z .0 (first-number rs ok refl ∙ e)), none-number rs)
   where
     ok : Answer
     ok = record { number = 0; value = 0 }
 
--- every refusal of a file has a number, and no value
+-- every refusal of a file has a number
 pub all-read : (file : List ℕ) (lent : ℕ) → Refuse (readRefusals file lent)
-unfolding readRefusals headRefusals bodyRefusals
-all-read file lent = (omega arith, refl, (omega arith, refl, (omega arith, refl, (omega arith, refl, (omega arith, refl, (omega arith, refl, tt))))))
+unfolding readRefusals headRefusals bodyRefusals every
+all-read file lent = refuse-of (readRefusals file lent) refl
 
 pub all-write : (rule boards cells starting records room : ℕ) → Refuse (writeRefusals rule boards cells starting records room)
-unfolding writeRefusals bodyRefusals
-all-write rule boards cells starting records room = (omega arith, refl, (omega arith, refl, (omega arith, refl, (omega arith, refl, tt))))
+unfolding writeRefusals bodyRefusals every
+all-write rule boards cells starting records room = refuse-of (writeRefusals rule boards cells starting records room) refl
 
 pub all-run : (file : List ℕ) (t : Table) (numbers values : ℕ) → Refuse (runRefusals file t numbers values)
-unfolding runRefusals headRefusals bodyRefusals
-all-run file t numbers values = (omega arith, refl, (omega arith, refl, (omega arith, refl, (omega arith, refl, (omega arith, refl, (omega arith, refl, (omega arith, refl, tt)))))))
+unfolding runRefusals headRefusals bodyRefusals every
+all-run file t numbers values = refuse-of (runRefusals file t numbers values) refl
 
 neither : (a b : Bool) → a ≡ false → b ≡ false → (a || b) ≡ false
 neither a b e f = rw (e, f)

@@ -5,11 +5,11 @@ use mathlib.Core.Bool.{true}
 use mathlib.Core.List.{List}
 use Prim.Native.Nat.{ℕ, _+_, _-_, _*_, _/_}
 use native.Mathlib.Omega.{arith}
-use lib.ListN.{length, getD, length-drop}
+use lib.ListN.{length, length-drop}
 use borrow.Author.Tests.{eq-eqb, ne-eqb}
 use Rattle.protocol.specs.declared.Answer.{Answer}
 use Rattle.protocol.specs.First.{firstNumber}
-use Rattle.protocol.specs.Slices.{Table, tableOf, copies, masks, width, sizesGood}
+use Rattle.protocol.specs.Slices.{Table, copies, masks, width, sizesGood}
 use Rattle.protocol.specs.Fresh.{freshTable}
 use Rattle.protocol.proofs.FreshExactly.{fresh-accepted, fresh-sizes}
 use Rattle.protocol.proofs.InWords.{sizes-exactly}
@@ -21,12 +21,12 @@ use Rattle.sessions.specs.FileRefusals.{countIn, runRefusals}
 use Rattle.sessions.specs.Run.{actionsOf, logOf, endOf, staleIn, staleOf}
 use Rattle.sessions.specs.declared.Report.{Report}
 use Rattle.sessions.specs.Statements.{Runs}
-use Rattle.sessions.specs.Code.{Prepared, Counted, Ran, Finished}
+use Rattle.sessions.specs.Code.{Prepared, Counted, CountsStale, Ran, Finished}
 use Rattle.sessions.proofs.AcceptedLaws.{Runnable, few-records}
 use Rattle.sessions.proofs.BytesLaws.{length-starting}
 use Rattle.sessions.proofs.RunLaws.{length-actions}
 
-module _ (file m k w numbers values : List ℕ) (ok : Runnable file (tableOf m k w) (length numbers) (length values)) where
+module _ (file : List ℕ) (t : Table) (numbers values : List ℕ) (ok : Runnable file t (length numbers) (length values)) where
   few-in : length (recordsIn file) / 9 ≡ countIn file
   few-in = rw (length-drop (9 + 4 * cellsIn file) file)
 
@@ -38,31 +38,31 @@ module _ (file m k w numbers values : List ℕ) (ok : Runnable file (tableOf m k
     room-latest = omega arith;
   }
 
-  module _ (p n : ℕ) (is-p : p ≡ boardsIn file) (is-n : n ≡ cellsIn file) (latest₁ : List ℕ) (is-latest : latest₁ ≡ startingIn file) (fresh : Answer) (m₁ k₁ w₁ : List ℕ)
-      (made : Freshens p n m k w latest₁ fresh m₁ k₁ w₁) where
+  module _ (p n : ℕ) (is-p : p ≡ boardsIn file) (is-n : n ≡ cellsIn file) (latest₁ : List ℕ) (is-latest : latest₁ ≡ startingIn file) (fresh : Answer) (t₁ : Table)
+      (made : Freshens p n t latest₁ fresh t₁) where
     abbrev start : Table
     start = freshTable (boardsIn file) (startingIn file)
 
-    made′ : Freshens (boardsIn file) (cellsIn file) m k w (startingIn file) fresh m₁ k₁ w₁
+    made′ : Freshens (boardsIn file) (cellsIn file) t (startingIn file) fresh t₁
     made′ = rw (is-p, is-n, is-latest) at made
 
     fresh-0 : fresh .number ≡ 0
-    fresh-0 = made′ .number ∙ fresh-accepted (boardsIn file) (cellsIn file) (startingIn file) (tableOf m k w) .1 (ok .sized, length-starting file)
+    fresh-0 = made′ .number ∙ fresh-accepted (boardsIn file) (cellsIn file) (startingIn file) t .1 (ok .sized, length-starting file)
 
-    is-start : tableOf m₁ k₁ w₁ ≡ start
-    is-start = fresh-gives (boardsIn file) (cellsIn file) m k w (startingIn file) fresh m₁ k₁ w₁ made′ fresh-0
+    is-start : t₁ ≡ start
+    is-start = fresh-gives (boardsIn file) (cellsIn file) t (startingIn file) fresh t₁ made′ fresh-0
 
-    module _ (records : List ℕ) (is-records : records ≡ recordsIn file) (accepted : ℕ) (m₂ k₂ w₂ numbers₂ values₂ latest₂ : List ℕ)
-        (ran : Ran (ruleIn file) p n m₁ k₁ w₁ numbers values latest₁ (actionsIn records) accepted m₂ k₂ w₂ numbers₂ values₂ latest₂) where
-      ran′ : Ran (ruleIn file) (boardsIn file) (cellsIn file) m₁ k₁ w₁ numbers values (startingIn file) (actionsOf file) accepted m₂ k₂ w₂ numbers₂ values₂ latest₂
+    module _ (records : List ℕ) (is-records : records ≡ recordsIn file) (accepted : ℕ) (t₂ : Table) (numbers₂ values₂ latest₂ : List ℕ)
+        (ran : Ran (ruleIn file) p n t₁ numbers values latest₁ (actionsIn records) accepted t₂ numbers₂ values₂ latest₂) where
+      ran′ : Ran (ruleIn file) (boardsIn file) (cellsIn file) t₁ numbers values (startingIn file) (actionsOf file) accepted t₂ numbers₂ values₂ latest₂
       ran′ = rw (is-p, is-n, is-latest, is-records) at ran
 
-      ends : Holds (endOf file) m₂ k₂ w₂
+      ends : Holds t₂ (endOf file)
       unfolding endOf
       ends = rw is-start at (ran′ .table)
 
-      is-end : tableOf m₂ k₂ w₂ ≡ endOf file
-      is-end = held (endOf file) m₂ k₂ w₂ ends
+      is-end : t₂ ≡ endOf file
+      is-end = held t₂ (endOf file) ends
 
       end-good : sizesGood (boardsIn file) (cellsIn file) (endOf file) ≡ true
       unfolding endOf
@@ -71,27 +71,26 @@ module _ (file m k w numbers values : List ℕ) (ok : Runnable file (tableOf m k
       counted : length (actionsOf file) ≡ countIn file
       counted = length-actions (recordsIn file) 0 (length (recordsIn file) / 9) ∙ few-in
 
-      pub countable : Counted p n k₂ w₂ latest₂
+      pub countable : Counted p n (t₂ copies) (t₂ masks) latest₂
       unfolding width
       countable =
           let lengths = sizes-exactly (boardsIn file) (cellsIn file) (endOf file) .0 end-good .1 in
           record {
             few-boards = rw is-p (ok .readable-too .sizes .few-boards);
             few-cells = rw is-n (ok .readable-too .sizes .few-cells);
-            copied = rw (is-p, is-n, ends .holds-copies) (lengths copies);
-            masked = rw (is-n, ends .holds-masks) (lengths masks);
+            copied = rw (is-p, is-n, ends copies) (lengths copies);
+            masked = rw (is-n, ends masks) (lengths masks);
             known = rw (ran .same-length, is-n, is-latest, length-starting file) (omega arith);
           }
 
-      pub finished : (stale : ℕ) →
-          ((main : List ℕ) → sizesGood p n (tableOf main k₂ w₂) ≡ true → stale ≡ staleIn p n (tableOf main k₂ w₂) (λ c. getD latest₂ c 0)) →
-          Finished file numbers values (record { number = fresh .number; accepted = accepted; stale = stale }) m₂ k₂ w₂ numbers₂ values₂
+      pub finished : (stale : ℕ) → CountsStale p n (t₂ copies) (t₂ masks) latest₂ stale →
+          Finished file numbers values (record { number = fresh .number; accepted = accepted; stale = stale }) t₂ numbers₂ values₂
       unfolding logOf staleOf
       finished stale s = record {
         number-is = fresh-0;
         accepted-is = rw is-start at (ran′ .accepted);
         stale-is =
-            rw (is-p, is-n) at (s m₂ (rw (is-p, is-n, is-end) end-good))
+            rw (is-p, is-n) at (s t₂ refl refl (rw (is-p, is-n, is-end) end-good))
             ∙ rw is-end (ap (staleIn (boardsIn file) (cellsIn file) (endOf file)) (fun-ext (λ c. rw is-start at (ran′ .latest-are c))));
         table-is = ends;
         numbers-are = rw (is-start, counted) at (ran′ .numbers-are);
@@ -100,16 +99,16 @@ module _ (file m k w numbers values : List ℕ) (ok : Runnable file (tableOf m k
 
 -- ---- a run is refused, or finished
 
-module _ (file m k w numbers values : List ℕ) where
-  pub refused : (number : ℕ) → number ≡ firstNumber (runRefusals file (tableOf m k w) (length numbers) (length values)) → number ≢ 0 →
-      Runs file m k w numbers values (record { number = number; accepted = 0; stale = 0 }) m k w numbers values
+module _ (file : List ℕ) (t : Table) (numbers values : List ℕ) where
+  pub refused : (number : ℕ) → number ≡ firstNumber (runRefusals file t (length numbers) (length values)) → number ≢ 0 →
+      Runs file t numbers values (record { number = number; accepted = 0; stale = 0 }) t numbers values
   refused number e h =
       let z = ne-eqb number 0 h in
-      record { number-is = e; accepted-is = rw z; stale-is = rw z; table-is = rw z (record { holds-main = refl; holds-copies = refl; holds-masks = refl }); numbers-are = rw z; values-are = rw z }
+      record { number-is = e; accepted-is = rw z; stale-is = rw z; table-is = rw z (λ s. refl); numbers-are = rw z; values-are = rw z }
 
-  pub done : (r : Report) (m′ k′ w′ numbers′ values′ : List ℕ) → firstNumber (runRefusals file (tableOf m k w) (length numbers) (length values)) ≡ 0 →
-      Finished file numbers values r m′ k′ w′ numbers′ values′ → Runs file m k w numbers values r m′ k′ w′ numbers′ values′
-  done r m′ k′ w′ numbers′ values′ e f =
+  pub done : (r : Report) (t′ : Table) (numbers′ values′ : List ℕ) → firstNumber (runRefusals file t (length numbers) (length values)) ≡ 0 →
+      Finished file numbers values r t′ numbers′ values′ → Runs file t numbers values r t′ numbers′ values′
+  done r t′ numbers′ values′ e f =
       let z = eq-eqb (r .number) 0 (f .number-is) in
       record {
         number-is = f .number-is ∙ sym e;

@@ -13,6 +13,8 @@ pub mod StaleLaws
 pub mod FinishLaws
 pub mod Unique
 pub mod FileRefused
+pub mod FileOrder
 pub mod LogLaws
 pub mod RunPromises
+pub mod RunOrder
 pub mod SmallRun

@@ -12,7 +12,7 @@ use Rattle.protocol.specs.Fresh.{freshTable}
 use Rattle.protocol.specs.Runs.{Line, log}
 use Rattle.sessions.specs.File.{ruleIn, boardsIn, cellsIn, startingIn, recordsIn, actionAt, actions}
 use Rattle.sessions.specs.FileRefusals.{countIn}
-use Rattle.sessions.specs.Run.{actionsOf, logOf, noLine, lineOfRecord}
+use Rattle.sessions.specs.Run.{actionsOf, logOf, noLine, lineOfRecord, recordOf}
 use Rattle.sessions.specs.declared.Report.{Report}
 use Rattle.sessions.specs.Statements.{accepting, Runs}
 use Rattle.sessions.proofs.RunLaws.{length-actions, length-log}
@@ -44,7 +44,7 @@ module _ (file : List ℕ) where
       ∙ length-actions (recordsIn file) 0 (length (recordsIn file) / 9)
       ∙ rw (length-drop (9 + 4 * cellsIn file) file)
 
-  pub its-action : (i : ℕ) → i < countIn file → lineOfRecord file i .action ≡ actionAt (recordsIn file) (9 * i)
+  pub its-action : (i : ℕ) → i < countIn file → lineOfRecord file i .action ≡ recordOf file i
   unfolding lineOfRecord logOf
   its-action i h =
       let e : 0 + 9 * i ≡ 9 * i = omega arith in
@@ -58,7 +58,7 @@ module _ (file : List ℕ) where
 
 -- ---- of a run that is not refused
 
-module _ (file m k w numbers values : List ℕ) (r : Report) (m′ k′ w′ numbers′ values′ : List ℕ) (s : Runs file m k w numbers values r m′ k′ w′ numbers′ values′) (ok : r .number ≡ 0) where
+module _ (file : List ℕ) (t : Table) (numbers values : List ℕ) (r : Report) (t′ : Table) (numbers′ values′ : List ℕ) (s : Runs file t numbers values r t′ numbers′ values′) (ok : r .number ≡ 0) where
   pub in-slice : (f : Line → ℕ) (old new : List ℕ) → new ≡ accepting (r .number) (map f (logOf file) ++ drop (countIn file) old) old → (i : ℕ) → i < countIn file → getD new i 0 ≡ f (lineOfRecord file i)
   unfolding lineOfRecord
   in-slice f old new e i h = rw (e, eq-eqb (r .number) 0 ok) (getD-front f (logOf file) (drop (countIn file) old) i (rw (logged file) h))

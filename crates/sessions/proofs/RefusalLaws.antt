@@ -4,14 +4,13 @@ use mathlib.Core.Logic.{_≢_}
 use mathlib.Core.Bool.{Bool, true, false, not, cond, _||_}
 use mathlib.Core.List.{List, [], _∷_, _++_}
 use Prim.Native.Nat.{ℕ, _+_, _-_, _*_, _/_, _<_, _≤_}
-use native.Mathlib.Omega.{arith}
 use lib.Dec.{eqb, ltb}
 use lib.ListN.{length}
 use borrow.Author.Tests.{ltb-false, lt-ltb, le-ltb}
 use Rattle.protocol.specs.First.{Refusal, when, firstNumber, NoneHolds}
-use Rattle.protocol.specs.Slices.{Table, inRange, sizesGood}
+use Rattle.protocol.specs.Slices.{Table, every, inRange, sizesGood}
 use Rattle.protocol.proofs.Booleans.{or-left}
-use Rattle.protocol.proofs.FirstLaws.{Refuse}
+use Rattle.protocol.proofs.FirstLaws.{Refuse, refuse-of}
 use Rattle.sessions.specs.File.{boardsIn, cellsIn, ruleIn}
 use Rattle.sessions.specs.FileRefusals.{headRefusals, bodyRefusals, recordsBad, bodyBad, readRefusals, countIn, runRefusals, writeRefusals}
 use Rattle.sessions.proofs.AcceptedLaws.{none-refuses, good-sizes, few-records}
@@ -35,13 +34,13 @@ passed : (first second : List Refusal) → Refuse first → firstNumber first �
 passed first second z e = none-before first second (none-refuses first z .0 e)
 
 bodies : (sizes : Bool) (rule : ℕ) (body : Bool) → Refuse (bodyRefusals sizes rule body)
-unfolding bodyRefusals
-bodies sizes rule body = ((λ z. omega arith), refl, ((λ z. omega arith), refl, ((λ z. omega arith), refl, tt)))
+unfolding bodyRefusals every
+bodies sizes rule body = refuse-of (bodyRefusals sizes rule body) refl
 
 module _ (file : List ℕ) where
   heads : Refuse (headRefusals file)
-  unfolding headRefusals
-  heads = ((λ z. omega arith), refl, ((λ z. omega arith), refl, ((λ z. omega arith), refl, tt)))
+  unfolding headRefusals every
+  heads = refuse-of (headRefusals file) refl
 
   pub head-long : firstNumber (headRefusals file) ≡ 0 → 9 ≤ length file
   unfolding headRefusals

@@ -3,23 +3,23 @@ use mathlib.Core.Path.{_≡_, refl, sym, _∙_}
 use mathlib.Core.Logic.{_≢_}
 use mathlib.Core.Bool.{Bool, true, false, not, _&&_}
 use mathlib.Core.List.{List, [], _∷_, _++_}
-use Prim.Native.Nat.{ℕ, zero, suc, _*_, _<_, _≤_}
+use Prim.Native.Nat.{ℕ, zero, suc, _<_, _≤_}
 use native.Mathlib.Omega.{arith}
 use lib.Dec.{eqb}
 use lib.ListN.{length, getD, drop, take}
 use borrow.Author.Tests.{eq-eqb}
 use Rattle.protocol.specs.declared.Action.{Action}
 use Rattle.protocol.specs.Masks.{hasBoard}
-use Rattle.protocol.specs.Slices.{Table, tableOf}
+use Rattle.protocol.specs.Slices.{Table}
 use Rattle.protocol.specs.Cell.{Cell, copyAt, liveMask, cellOf}
 use Rattle.protocol.specs.Step.{answer, tableAfter}
 use Rattle.protocol.specs.Fresh.{freshTable}
 use Rattle.protocol.specs.Runs.{CoherentRule, Line, log, tableAfterAll, isRead, acceptedRead, latestWrite}
 use Rattle.protocol.proofs.Demand3Reads.{reads-latest}
 use Rattle.protocol.proofs.FreshStaysSound.{never-7, live-is-latest}
-use Rattle.sessions.specs.File.{ruleIn, boardsIn, cellsIn, startingIn, recordsIn, actionAt}
+use Rattle.sessions.specs.File.{ruleIn, boardsIn, cellsIn, startingIn}
 use Rattle.sessions.specs.FileRefusals.{countIn}
-use Rattle.sessions.specs.Run.{actionsOf, logOf, endOf, noLine, lineOfRecord, countBelow, sumBelow, staleIn, staleOf}
+use Rattle.sessions.specs.Run.{actionsOf, logOf, endOf, noLine, lineOfRecord, recordOf, latestBefore, countBelow, sumBelow, staleIn, staleOf}
 use Rattle.sessions.specs.declared.Report.{Report}
 use Rattle.sessions.specs.Statements.{Runs}
 use Rattle.sessions.proofs.AcceptedLaws.{runnable}
@@ -33,7 +33,7 @@ unfolding countBelow
 none-counted zero test h = refl
 none-counted (suc n) test h = rw (h n (omega arith), none-counted n test (λ p l. h p (omega arith)))
 
-none-summed : (n : ℕ) (count : ℕ → ℕ) → ((c : ℕ) → count c ≡ 0) → sumBelow n count ≡ 0
+pub none-summed : (n : ℕ) (count : ℕ → ℕ) → ((c : ℕ) → count c ≡ 0) → sumBelow n count ≡ 0
 unfolding sumBelow
 none-summed zero count h = refl
 none-summed (suc n) count h = rw (h n, none-summed n count h)
@@ -80,22 +80,21 @@ module _ (file : List ℕ) where
 
 -- ---- of a run that is not refused
 
-module _ (file m k w numbers values : List ℕ) (r : Report) (m′ k′ w′ numbers′ values′ : List ℕ) (s : Runs file m k w numbers values r m′ k′ w′ numbers′ values′) (ok : r .number ≡ 0) where
+module _ (file : List ℕ) (t : Table) (numbers values : List ℕ) (r : Report) (t′ : Table) (numbers′ values′ : List ℕ) (s : Runs file t numbers values r t′ numbers′ values′) (ok : r .number ≡ 0) where
   -- demand 3: an accepted Read among the records answers the latest accepted write before it
-  pub run-reads-latest : CoherentRule (ruleIn file) → (i : ℕ) → i < countIn file → getD numbers′ i 0 ≡ 0 → actionAt (recordsIn file) (9 * i) .code ≡ 0 →
-      getD values′ i 0
-      ≡ latestWrite (actionAt (recordsIn file) (9 * i) .cell) (getD (startingIn file) (actionAt (recordsIn file) (9 * i) .cell) 0) (take i (logOf file))
-  unfolding acceptedRead isRead
+  pub run-reads-latest : CoherentRule (ruleIn file) → (i : ℕ) → i < countIn file → getD numbers′ i 0 ≡ 0 → recordOf file i .code ≡ 0 →
+      getD values′ i 0 ≡ latestBefore file i (recordOf file i .cell)
+  unfolding acceptedRead isRead latestBefore
   run-reads-latest co i h n c =
       let a = its-action file i h in
-      let told = in-slice file m k w numbers values r m′ k′ w′ numbers′ values′ s ok (λ line. line .told .number) numbers numbers′ (s .numbers-are) i h in
+      let told = in-slice file t numbers values r t′ numbers′ values′ s ok (λ line. line .told .number) numbers numbers′ (s .numbers-are) i h in
       let read : acceptedRead (lineOfRecord file i) ≡ true = rw (sym told, n, a, c) in
-      in-slice file m k w numbers values r m′ k′ w′ numbers′ values′ s ok (λ line. line .told .value) values values′ (s .values-are) i h
+      in-slice file t numbers values r t′ numbers′ values′ s ok (λ line. line .told .value) values values′ (s .values-are) i h
       ∙ rw a at (session-reads-latest file co (take i (logOf file)) (drop (suc i) (logOf file)) (lineOfRecord file i) (cut-at file i h) read)
 
   pub run-not-stale : 2 ≤ ruleIn file → r .stale ≡ 0
   run-not-stale l =
-      s .stale-is ∙ rw (eq-eqb (r .number) 0 ok) (session-not-stale file l (runnable file (tableOf m k w) (length numbers) (length values) (sym (s .number-is) ∙ ok) .readable-too .ruled))
+      s .stale-is ∙ rw (eq-eqb (r .number) 0 ok) (session-not-stale file l (runnable file t (length numbers) (length values) (sym (s .number-is) ∙ ok) .readable-too .ruled))
 
   pub run-never-7 : (i : ℕ) → i < countIn file → getD numbers′ i 0 ≢ 7
-  run-never-7 i h e = session-never-7 file i (sym (in-slice file m k w numbers values r m′ k′ w′ numbers′ values′ s ok (λ line. line .told .number) numbers numbers′ (s .numbers-are) i h) ∙ e)
+  run-never-7 i h e = session-never-7 file i (sym (in-slice file t numbers values r t′ numbers′ values′ s ok (λ line. line .told .number) numbers numbers′ (s .numbers-are) i h) ∙ e)

@@ -1,12 +1,11 @@
 -- Counts that grow from below, and the stale copies by the numbers in the slices. Assumes nothing.
 use mathlib.Core.Path.{_≡_, refl}
 use mathlib.Core.Bool.{Bool, true, cond}
-use mathlib.Core.List.{List}
 use Prim.Native.Nat.{ℕ, zero, suc, _+_, _*_, _<_}
 use native.Mathlib.Omega.{arith}
 use native.Mathlib.Numerals.{add-one}
 use lib.ListN.{getD}
-use Rattle.protocol.specs.Slices.{tableOf, sizesGood}
+use Rattle.protocol.specs.Slices.{copies, masks, Table, sizesGood}
 use Rattle.table.proofs.ReadyLaws.{ready, copy-is, live-is}
 use Rattle.sessions.specs.Run.{isStale, countBelow, sumBelow, staleIn}
 
@@ -28,9 +27,9 @@ unfolding sumBelow
 sum-same zero f g e = refl
 sum-same (suc n) f g e = rw (e n (omega arith), sum-same n f g (λ c l. e c (omega arith)))
 
-pub by-slices : (boards cells : ℕ) (m k w : List ℕ) (latest : ℕ → ℕ) → sizesGood boards cells (tableOf m k w) ≡ true →
-    sumBelow cells (λ c. countBelow boards (λ p. isStale (getD w (c * 3) 0) p (getD k (c * boards + p) 0) (latest c))) ≡ staleIn boards cells (tableOf m k w) latest
+pub by-slices : (boards cells : ℕ) (t : Table) (latest : ℕ → ℕ) → sizesGood boards cells t ≡ true →
+    sumBelow cells (λ c. countBelow boards (λ p. isStale (getD (t masks) (c * 3) 0) p (getD (t copies) (c * boards + p) 0) (latest c))) ≡ staleIn boards cells t latest
 unfolding staleIn
-by-slices boards cells m k w latest s =
+by-slices boards cells t latest s =
     sum-same cells _ _
-    (λ c l. let y = ready boards cells m k w s c l in count-same boards _ _ (λ p h. rw (live-is boards cells c m k w y, copy-is boards cells c m k w y p h)))
+    (λ c l. let y = ready boards cells t s c l in count-same boards _ _ (λ p h. rw (live-is boards cells c t y, copy-is boards cells c t y p h)))

@@ -3,6 +3,7 @@ use mathlib.Core.Path.{_≡_, sym, ap, _∙_}
 use mathlib.Core.List.{List}
 use Prim.Native.Nat.{ℕ}
 use Rattle.protocol.specs.declared.Answer.{Answer}
+use Rattle.protocol.specs.Slices.{Table}
 use Rattle.sessions.specs.declared.Report.{Report}
 use Rattle.sessions.specs.declared.Sizes.{Sizes}
 use Rattle.sessions.specs.Statements.{accepting, SizesIn, Reads, Writes, Runs, SameSizes, SameRead, SameWrite, SameRun}
@@ -34,19 +35,16 @@ one-write rule boards cells starting records old r r′ out out′ f g =
     let e = f .number-is ∙ sym (g .number-is) in
     record { same-number = e; same-value = f .value-is ∙ sym (g .value-is); same-out = by-number (r .number) (r′ .number) _ _ out out′ e (f .bytes) (g .bytes) }
 
-pub one-run : (file m k w numbers values : List ℕ) (r r′ : Report) (m₁ m₂ k₁ k₂ w₁ w₂ numbers₁ numbers₂ values₁ values₂ : List ℕ) →
-    Runs file m k w numbers values r m₁ k₁ w₁ numbers₁ values₁ → Runs file m k w numbers values r′ m₂ k₂ w₂ numbers₂ values₂ →
-    SameRun r r′ m₁ m₂ k₁ k₂ w₁ w₂ numbers₁ numbers₂ values₁ values₂
-one-run file m k w numbers values r r′ m₁ m₂ k₁ k₂ w₁ w₂ numbers₁ numbers₂ values₁ values₂ f g =
+pub one-run : (file : List ℕ) (t : Table) (numbers values : List ℕ) (r r′ : Report) (t₁ t₂ : Table) (numbers₁ numbers₂ values₁ values₂ : List ℕ) →
+    Runs file t numbers values r t₁ numbers₁ values₁ → Runs file t numbers values r′ t₂ numbers₂ values₂ → SameRun r r′ t₁ t₂ numbers₁ numbers₂ values₁ values₂
+one-run file t numbers values r r′ t₁ t₂ numbers₁ numbers₂ values₁ values₂ f g =
     let e = f .number-is ∙ sym (g .number-is) in
     let h = rw e at (f .table-is) in
     record {
       same-number = e;
       same-accepted = by-number (r .number) (r′ .number) _ _ (r .accepted) (r′ .accepted) e (f .accepted-is) (g .accepted-is);
       same-stale = by-number (r .number) (r′ .number) _ _ (r .stale) (r′ .stale) e (f .stale-is) (g .stale-is);
-      same-main = h .holds-main ∙ sym (g .table-is .holds-main);
-      same-copies = h .holds-copies ∙ sym (g .table-is .holds-copies);
-      same-masks = h .holds-masks ∙ sym (g .table-is .holds-masks);
+      same-slices = λ s. h s ∙ sym (g .table-is s);
       same-numbers = by-number (r .number) (r′ .number) _ _ numbers₁ numbers₂ e (f .numbers-are) (g .numbers-are);
       same-values = by-number (r .number) (r′ .number) _ _ values₁ values₂ e (f .values-are) (g .values-are);
     }

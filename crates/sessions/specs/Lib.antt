@@ -1,6 +1,7 @@
 -- The session file and its run. Assumes nothing.
 pub mod File
 pub mod FileRefusals
+pub mod FileWords
 pub mod Run
 pub mod Statements
 pub mod Written

@@ -13,7 +13,7 @@ use Rattle.sessions.specs.Run.{endOf, logOf, acceptedIn, staleOf}
 use Rattle.sessions.specs.declared.Report.{Report}
 use Rattle.sessions.specs.declared.Sizes.{Sizes}
 use Rattle.table.specs.Statements.{Holds}
-use Rattle.protocol.specs.Slices.{tableOf}
+use Rattle.protocol.specs.Slices.{Table}
 
 -- a where the number is 0, else b
 abbrev pub accepting {ℓ} : {A : Type ℓ} → (number : ℕ) → A → A → A
@@ -43,11 +43,11 @@ pub record Writes (rule boards cells : ℕ) (starting records old : List ℕ) (r
 
 -- `run`: it fills the answer slices up to the record count and leaves the table as the last record left it; refused, nothing changes and both
 -- counts are 0
-pub record Runs (file m k w numbers values : List ℕ) (r : Report) (m′ k′ w′ numbers′ values′ : List ℕ) : Type 0 where
-  pub number-is : r .number ≡ firstNumber (runRefusals file (tableOf m k w) (length numbers) (length values))
+pub record Runs (file : List ℕ) (t : Table) (numbers values : List ℕ) (r : Report) (t′ : Table) (numbers′ values′ : List ℕ) : Type 0 where
+  pub number-is : r .number ≡ firstNumber (runRefusals file t (length numbers) (length values))
   pub accepted-is : r .accepted ≡ accepting (r .number) (acceptedIn (logOf file)) 0
   pub stale-is : r .stale ≡ accepting (r .number) (staleOf file) 0
-  pub table-is : Holds (accepting (r .number) (endOf file) (tableOf m k w)) m′ k′ w′
+  pub table-is : Holds t′ (accepting (r .number) (endOf file) t)
   pub numbers-are : numbers′ ≡ accepting (r .number) (map (λ l. l .told .number) (logOf file) ++ drop (countIn file) numbers) numbers
   pub values-are : values′ ≡ accepting (r .number) (map (λ l. l .told .value) (logOf file) ++ drop (countIn file) values) values
 
@@ -79,12 +79,10 @@ pub record SameWrite (r r′ : Answer) (out out′ : List ℕ) : Type 0 where
   pub same-value : r .value ≡ r′ .value
   pub same-out : out ≡ out′
 
-pub record SameRun (r r′ : Report) (m m′ k k′ w w′ numbers numbers′ values values′ : List ℕ) : Type 0 where
+pub record SameRun (r r′ : Report) (t t′ : Table) (numbers numbers′ values values′ : List ℕ) : Type 0 where
   pub same-number : r .number ≡ r′ .number
   pub same-accepted : r .accepted ≡ r′ .accepted
   pub same-stale : r .stale ≡ r′ .stale
-  pub same-main : m ≡ m′
-  pub same-copies : k ≡ k′
-  pub same-masks : w ≡ w′
+  pub same-slices : Holds t t′
   pub same-numbers : numbers ≡ numbers′
   pub same-values : values ≡ values′

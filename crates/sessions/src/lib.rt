@@ -1,4 +1,5 @@
 // The session file and its run: a reader, a writer, and a run of the file's records over a table in lent memory.
+ghost use Rattle.protocol.specs.Slices.{tableOf};
 ghost use Rattle.sessions.specs.Statements.{SizesIn, Reads, Writes, Runs};
 
 mod bytes;
@@ -102,7 +103,7 @@ pub fn run(
     numbers: &mut [u8],
     values: &mut [u32],
 ) -> Report
-    ensures { λ r. ⌜ Runs (now (file .entry)) (now (main .entry)) (now (copies .entry)) (now (masks .entry)) (now (numbers .entry)) (now (values .entry)) r (now (main .exit)) (now (copies .exit)) (now (masks .exit)) (now (numbers .exit)) (now (values .exit)) ⌝ }
+    ensures { λ r. ⌜ Runs (now (file .entry)) (tableOf (now (main .entry)) (now (copies .entry)) (now (masks .entry))) (now (numbers .entry)) (now (values .entry)) r (tableOf (now (main .exit)) (now (copies .exit)) (now (masks .exit))) (now (numbers .exit)) (now (values .exit)) ⌝ }
 {
     let number = runner::refusal(file, main, copies, masks, numbers.len(), values.len());
     if number != protocol::ACCEPTED {

@@ -2,6 +2,7 @@
 ghost use mathlib.Core.Path.{_≡_};
 ghost use Prim.Native.Nat.{_+_, _<_, _≤_};
 ghost use lib.ListN.{length};
+ghost use Rattle.protocol.specs.Slices.{tableOf};
 ghost use Rattle.sessions.specs.File.{actionAt, actionsIn};
 ghost use Rattle.sessions.specs.Code.{Noted, Prepared, Ran};
 use crate::bytes;
@@ -49,7 +50,7 @@ pub fn perform_all(
     latest: &mut [u32],
 ) -> usize
     requires { ⌜ Prepared cells (now records) (now numbers) (now values) (now latest) ⌝ }
-    ensures { λ r. ⌜ Ran rule boards cells (now (main .entry)) (now (copies .entry)) (now (masks .entry)) (now (numbers .entry)) (now (values .entry)) (now (latest .entry)) (actionsIn (now (records .entry))) r (now (main .exit)) (now (copies .exit)) (now (masks .exit)) (now (numbers .exit)) (now (values .exit)) (now (latest .exit)) ⌝ }
+    ensures { λ r. ⌜ Ran rule boards cells (tableOf (now (main .entry)) (now (copies .entry)) (now (masks .entry))) (now (numbers .entry)) (now (values .entry)) (now (latest .entry)) (actionsIn (now (records .entry))) r (tableOf (now (main .exit)) (now (copies .exit)) (now (masks .exit))) (now (numbers .exit)) (now (values .exit)) (now (latest .exit)) ⌝ }
 {
     let count = records.len() / 9;
     let mut accepted = 0;

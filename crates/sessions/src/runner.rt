@@ -51,7 +51,7 @@ fn perform_with(
     latest: &mut [u32],
 ) -> Report
     requires { ⌜ (firstNumber (runRefusals (now file) (tableOf (now main) (now copies) (now masks)) (length (now numbers)) (length (now values))) ≡ 0) × (length (now latest) ≡ cellsIn (now file)) ⌝ }
-    ensures { λ r. ⌜ Finished (now (file .entry)) (now (numbers .entry)) (now (values .entry)) r (now (main .exit)) (now (copies .exit)) (now (masks .exit)) (now (numbers .exit)) (now (values .exit)) ⌝ }
+    ensures { λ r. ⌜ Finished (now (file .entry)) (now (numbers .entry)) (now (values .entry)) r (tableOf (now (main .exit)) (now (copies .exit)) (now (masks .exit))) (now (numbers .exit)) (now (values .exit)) ⌝ }
 {
     let sizes = crate::sizes_in(file);
     bytes::read_values(file, 9, latest);
@@ -86,7 +86,7 @@ pub fn perform(
     values: &mut [u32],
 ) -> Report
     requires { ⌜ firstNumber (runRefusals (now file) (tableOf (now main) (now copies) (now masks)) (length (now numbers)) (length (now values))) ≡ 0 ⌝ }
-    ensures { λ r. ⌜ Finished (now (file .entry)) (now (numbers .entry)) (now (values .entry)) r (now (main .exit)) (now (copies .exit)) (now (masks .exit)) (now (numbers .exit)) (now (values .exit)) ⌝ }
+    ensures { λ r. ⌜ Finished (now (file .entry)) (now (numbers .entry)) (now (values .entry)) r (tableOf (now (main .exit)) (now (copies .exit)) (now (masks .exit))) (now (numbers .exit)) (now (values .exit)) ⌝ }
 {
     let sizes = crate::sizes_in(file);
     let mut latest = [0u32; 512];

@@ -1,12 +1,10 @@
 // The stale copies of a table: live, and not the latest accepted write to their cell.
 ghost use mathlib.Core.Path.{_≡_};
-ghost use mathlib.Core.Bool.{cond, true};
-ghost use mathlib.Core.List.{List};
-ghost use Prim.Native.Nat.{ℕ, _+_, _*_, _<_, _≤_};
+ghost use mathlib.Core.Bool.{cond};
+ghost use Prim.Native.Nat.{_+_, _*_, _<_, _≤_};
 ghost use lib.ListN.{length, getD};
-ghost use Rattle.protocol.specs.Slices.{tableOf, sizesGood};
-ghost use Rattle.sessions.specs.Run.{countBelow, isStale, staleIn};
-ghost use Rattle.sessions.specs.Code.{Counted};
+ghost use Rattle.sessions.specs.Run.{countBelow, isStale};
+ghost use Rattle.sessions.specs.Code.{Counted, CountsStale};
 
 // 1 for a stale copy, else 0. `table` has its own test of a board in a mask, which is private: it asks that the board is below 16.
 fn one(live: u16, board: usize, copy: u32, latest: u32) -> usize
@@ -34,8 +32,7 @@ fn at_cell(boards: usize, copies: &[u32], cell: usize, live: u16, latest: u32) -
 // The stale copies of all cells, where the table's lengths are right.
 pub fn count(boards: usize, cells: usize, copies: &[u32], masks: &[u16], latest: &[u32]) -> usize
     requires { ⌜ Counted boards cells (now copies) (now masks) (now latest) ⌝ }
-    ensures { λ r. ⌜ ((m : List ℕ) → sizesGood boards cells (tableOf m (now (copies .entry)) (now (masks .entry))) ≡ true →
-        r ≡ staleIn boards cells (tableOf m (now (copies .entry)) (now (masks .entry))) (λ c. getD (now (latest .entry)) c 0)) ⌝ }
+    ensures { λ r. ⌜ CountsStale boards cells (now (copies .entry)) (now (masks .entry)) (now (latest .entry)) r ⌝ }
 {
     let mut sum = 0;
     let mut cell = 0;

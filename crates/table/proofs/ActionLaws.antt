@@ -1,26 +1,26 @@
 -- What the number of an answer settles for the code: the places of an accepted action, and the whole promise of a step. Assumes nothing.
-use mathlib.Core.Path.{_≡_, sym, ap, _∙_}
+use mathlib.Core.Path.{_≡_, refl, sym, ap, _∙_}
 use mathlib.Core.Logic.{_≢_, inl, inr}
-use mathlib.Core.Bool.{true, false, not}
-use mathlib.Core.List.{List}
+use mathlib.Core.Bool.{Bool, true, false}
+use mathlib.Core.List.{[], _∷_}
 use Prim.Native.Nat.{ℕ, _+_, _*_, _^_, _<_, _≤_}
 use lib.ListN.{getD}
 use native.Mathlib.Omega.{arith}
 use native.Mathlib.Decide.{ℕ-discrete, decLt}
-use lib.Dec.{eqb}
 use borrow.Author.Tests.{leb-false, not-false}
 use Rattle.protocol.specs.declared.Action.{Action}
 use Rattle.protocol.specs.Names.{ruleOf}
-use Rattle.protocol.specs.Slices.{Table, tableOf, main, copies, masks, sizesGood}
+use Rattle.protocol.specs.Slices.{Table, main, copies, masks, sizesGood}
 use Rattle.protocol.specs.Cell.{Cell, cellOf}
 use Rattle.protocol.specs.Soundness.{sound}
+use Rattle.protocol.specs.First.{when, firstNumber}
 use Rattle.protocol.specs.Step.{malformed, missing, offBoard, seen, refusals, answer, tableAfter}
 use Rattle.protocol.proofs.Booleans.{clash}
 use Rattle.protocol.proofs.InWords.{malformed-exactly, offBoard-exactly}
 use Rattle.protocol.proofs.NumberLaws.{code-fits}
 use Rattle.protocol.proofs.StepLaws.{accepted-value}
 use Rattle.protocol.proofs.Demand1.{accepted-exactly, refused-changes-nothing}
-use Rattle.protocol.proofs.RefusalOrder.{answers-7, answers-guard}
+use Rattle.protocol.proofs.RefusalOrder.{answers-3, answers-4, answers-7, answers-guard}
 use Rattle.table.specs.Statements.{Steps}
 use Rattle.table.specs.Code.{Ready, Room, MasksAt, currentAt, GuardGives, Performs}
 use Rattle.table.proofs.ReadyLaws.{ready, room, copy-is, as-live, as-dirty, as-lock, current-is}
@@ -40,77 +40,87 @@ boards-in boards a some f o = (home (decLt (a .board) boards), there (ℕ-discre
     there (no c) (yes z) (no n) = absurd (n (omega arith))
     there (no c) (no z) (no n) = absurd (clash (malformed-exactly a .1 (inl (inr (c, z)))) f)
 
-module _ (rule boards cells : ℕ) (m k w : List ℕ) (a : Action) where
-  abbrev before : Table
-  before = tableOf m k w
+-- refusals 3 and 4
+abbrev form : (rule : ℕ) → Action → ℕ
+form rule a = firstNumber (when 3 (malformed a) ∷ when 4 (missing rule (a .code)) ∷ [])
 
+pub formed : (rule : ℕ) (a : Action) → form rule a ≡ 0 → (malformed a ≡ false) × (missing rule (a .code) ≡ false)
+formed rule a e = go (malformed a) refl (missing rule (a .code)) refl
+  where
+    go : (b : Bool) → malformed a ≡ b → (d : Bool) → missing rule (a .code) ≡ d → (malformed a ≡ false) × (missing rule (a .code) ≡ false)
+    go true f d g = let z : _≡_ {A = ℕ} 3 0 = rw f at e in absurd (omega arith)
+    go false f true g = let z : _≡_ {A = ℕ} 4 0 = rw (f, g) at e in absurd (omega arith)
+    go false f false g = (f, g)
+
+module _ (rule boards cells : ℕ) (t : Table) (a : Action) where
   -- accepted: the places that the action uses
-  pub accepted-room : answer rule boards cells before a .number ≡ 0 → Room boards cells (a .cell) (a .board) (a .to) m k w × (a .code ≤ 8)
+  pub accepted-room : answer rule boards cells t a .number ≡ 0 → Room boards cells (a .cell) (a .board) (a .to) t × (a .code ≤ 8)
   unfolding refusals seen
   accepted-room e =
-      let n = accepted-exactly rule boards cells before a .0 e in
-      let y = ready boards cells m k w (not-false _ (n .0)) (a .cell) (leb-false cells (a .cell) (n .1 .1 .1 .1 .1 .0)) in
+      let n = accepted-exactly rule boards cells t a .0 e in
+      let y = ready boards cells t (not-false _ (n .0)) (a .cell) (leb-false cells (a .cell) (n .1 .1 .1 .1 .1 .0)) in
       let b = boards-in boards a (y .some-board) (n .1 .1 .0) (n .1 .1 .1 .1 .0) in
-      (room boards cells (a .cell) m k w y (a .board) (a .to) (b .0) (b .1), code-fits a (n .1 .1 .0))
+      (room boards cells (a .cell) t y (a .board) (a .to) (b .0) (b .1), code-fits a (n .1 .1 .0))
 
   -- refused: the answer, and nothing changed
-  pub stopped : (n : ℕ) → n ≡ answer rule boards cells before a .number → n ≢ 0 → Steps boards cells m k w rule a (record { number = n; value = 0 }) m k w
+  pub stopped : (n : ℕ) → n ≡ answer rule boards cells t a .number → n ≢ 0 → Steps boards cells t rule a (record { number = n; value = 0 }) t
   stopped n e h =
-      let f = refused-changes-nothing rule boards cells before a (λ z. h (e ∙ z)) in
-      record {
-        number = e;
-        value = sym (f .1);
-        slices = record {
-          holds-main = ap (λ (t : Table). t main) (sym (f .0));
-          holds-copies = ap (λ (t : Table). t copies) (sym (f .0));
-          holds-masks = ap (λ (t : Table). t masks) (sym (f .0));
-        };
-      }
+      let f = refused-changes-nothing rule boards cells t a (λ z. h (e ∙ z)) in
+      record { number = e; value = sym (f .1); slices = λ s. ap (λ (u : Table). u s) (sym (f .0)) }
 
   -- accepted: the action's value, and its effect stored
-  pub went : (n r : ℕ) (m′ k′ w′ : List ℕ) → n ≡ answer rule boards cells before a .number → n ≡ 0 → Performs boards cells m k w a r m′ k′ w′ →
-      Steps boards cells m k w rule a (record { number = n; value = r }) m′ k′ w′
+  pub went : (n r : ℕ) (t′ : Table) → n ≡ answer rule boards cells t a .number → n ≡ 0 → Performs boards cells t a r t′ →
+      Steps boards cells t rule a (record { number = n; value = r }) t′
   unfolding tableAfter answer seen
-  went n r m′ k′ w′ e z p =
-      let ok : answer rule boards cells before a .number ≡ 0 = sym e ∙ z in
+  went n r t′ e z p =
+      let ok : answer rule boards cells t a .number ≡ 0 = sym e ∙ z in
       record {
         number = e;
-        value = p .value ∙ sym (accepted-value rule boards cells (seen boards cells before (a .cell)) a ok);
+        value = p .value ∙ sym (accepted-value rule boards cells (seen boards cells t (a .cell)) a ok);
         slices = rw ok (p .stored (ruleOf rule));
       }
 
+  -- refused for its form: 3, or 4
+  pub unformed : sizesGood boards cells t ≡ true → rule ≤ 4 → (n : ℕ) → n ≡ form rule a → n ≢ 0 → n ≡ answer rule boards cells t a .number
+  unformed s r n e h = go (malformed a) refl (missing rule (a .code)) refl
+    where
+      go : (b : Bool) → malformed a ≡ b → (d : Bool) → missing rule (a .code) ≡ d → n ≡ answer rule boards cells t a .number
+      go true f d g = (rw f at e) ∙ sym (answers-3 rule boards cells t a .1 (s, r, f))
+      go false f true g = (rw (f, g) at e) ∙ sym (answers-4 rule boards cells t a .1 (s, r, f, g))
+      go false f false g = absurd (h (rw (f, g) at e))
+
 -- ---- past the sixth refusal
 
-pub record Cleared (rule boards cells : ℕ) (m k w : List ℕ) (a : Action) : Type 0 where
-  pub sizes : sizesGood boards cells (tableOf m k w) ≡ true
+pub record Cleared (rule boards cells : ℕ) (t : Table) (a : Action) : Type 0 where
+  pub sizes : sizesGood boards cells t ≡ true
   pub ruled : rule ≤ 4
   pub formed : malformed a ≡ false
   pub there : missing rule (a .code) ≡ false
   pub boarded : offBoard boards a ≡ false
   pub inside : a .cell < cells
 
-module _ (rule boards cells : ℕ) (m k w : List ℕ) (a : Action) (c : Cleared rule boards cells m k w a) where
+module _ (rule boards cells : ℕ) (t : Table) (a : Action) (c : Cleared rule boards cells t a) where
   abbrev here : Cell
-  here = cellOf boards cells (tableOf m k w) (a .cell)
+  here = cellOf boards cells t (a .cell)
 
-  pub cleared-ready : Ready boards cells (a .cell) m k w
-  cleared-ready = ready boards cells m k w (c .sizes) (a .cell) (c .inside)
+  pub cleared-ready : Ready boards cells (a .cell) t
+  cleared-ready = ready boards cells t (c .sizes) (a .cell) (c .inside)
 
   pub cleared-boards : (a .board < boards) × (a .to < boards)
   cleared-boards = boards-in boards a (cleared-ready .some-board) (c .formed) (c .boarded)
 
-  pub cleared-7 : sound (ruleOf rule) boards here ≡ false → 7 ≡ answer rule boards cells (tableOf m k w) a .number
-  cleared-7 s = sym (answers-7 rule boards cells (tableOf m k w) a .1 (c .sizes, c .ruled, c .formed, c .there, c .boarded, c .inside, s))
+  pub cleared-7 : sound (ruleOf rule) boards here ≡ false → 7 ≡ answer rule boards cells t a .number
+  cleared-7 s = sym (answers-7 rule boards cells t a .1 (c .sizes, c .ruled, c .formed, c .there, c .boarded, c .inside, s))
 
-  module _ (s : sound (ruleOf rule) boards here ≡ true) (live dirty lock : ℕ) (at : MasksAt w (a .cell) live dirty lock) where
+  module _ (s : sound (ruleOf rule) boards here ≡ true) (live dirty lock : ℕ) (at : MasksAt (t masks) (a .cell) live dirty lock) where
     pub dirty-below : dirty < 2 ^ boards
-    dirty-below = sound-below rule boards cells (a .cell) m k w (c .ruled) cleared-ready live dirty lock at s
+    dirty-below = sound-below rule boards cells (a .cell) t (c .ruled) cleared-ready live dirty lock at s
 
     -- the guard, on what the code has read of the cell
-    pub cleared-guard : (now n : ℕ) → now ≡ currentAt boards (a .cell) dirty m k →
-        GuardGives rule live dirty lock (not (eqb (getD k (a .cell * boards + a .board) 0) now)) a n → n ≡ answer rule boards cells (tableOf m k w) a .number
+    pub cleared-guard : (now n : ℕ) → now ≡ currentAt boards (a .cell) dirty (t main) (t copies) →
+        GuardGives rule live dirty lock (getD (t copies) (a .cell * boards + a .board) 0) now a n → n ≡ answer rule boards cells t a .number
     cleared-guard now n z g =
         let y = cleared-ready in
-        g here (as-live boards cells (a .cell) m k w y live dirty lock at) (as-dirty boards cells (a .cell) m k w y live dirty lock at) (as-lock boards cells (a .cell) m k w y live dirty lock at)
-        (rw (copy-is boards cells (a .cell) m k w y (a .board) (cleared-boards .0), current-is boards cells (a .cell) m k w y live dirty lock at dirty-below, ← z))
-        ∙ sym (answers-guard rule boards cells (tableOf m k w) a (c .sizes, c .ruled, c .formed, c .there, c .boarded, c .inside, s))
+        g here (as-live boards cells (a .cell) t y live dirty lock at) (as-dirty boards cells (a .cell) t y live dirty lock at) (as-lock boards cells (a .cell) t y live dirty lock at)
+        (copy-is boards cells (a .cell) t y (a .board) (cleared-boards .0)) (current-is boards cells (a .cell) t y live dirty lock at dirty-below ∙ sym z)
+        ∙ sym (answers-guard rule boards cells t a (c .sizes, c .ruled, c .formed, c .there, c .boarded, c .inside, s))

@@ -8,33 +8,40 @@ use lib.ListN.{getD, set}
 use lib.Seq.{getD-set-other}
 use Rattle.protocol.specs.Names.{procOf}
 use Rattle.protocol.specs.Masks.{withBoard, withoutBoard}
-use Rattle.protocol.specs.Slices.{sliceNumber, tableOf, width, cellByCell}
+use Rattle.protocol.specs.Slices.{main, copies, masks, sliceNumber, Table, tableOf, width, cellByCell}
 use Rattle.protocol.specs.Cell.{Cell, mainValue, copyAt, liveMask, dirtyMask, lockMask, cellOf}
 use Rattle.protocol.specs.Effects.{effect, valueOf, storeBy, storesBy}
+use Rattle.table.specs.Statements.{Holds}
 use Rattle.table.specs.Code.{Room, Performs, actionOf}
 use Rattle.table.proofs.ReadyLaws.{main-is, copy-is, live-is, dirty-is, lock-is}
 
-module _ (boards cells cell board to value : ℕ) (m k w : List ℕ) (y : Room boards cells cell board to m k w) where
+by-slice : (u : Table) (m k w : List ℕ) → m ≡ u main → k ≡ u copies → w ≡ u masks → Holds (tableOf m k w) u
+by-slice u m k w a b c main = a
+by-slice u m k w a b c copies = b
+by-slice u m k w a b c masks = c
+
+module _ (boards cells cell board to value : ℕ) (t : Table) (y : Room boards cells cell board to t) where
   abbrev x : Cell
-  x = cellOf boards cells (tableOf m k w) cell
+  x = cellOf boards cells t cell
 
-  abbrev Does : (code r : ℕ) → (m′ k′ w′ : List ℕ) → Type 0
-  Does code r m′ k′ w′ = Performs boards cells m k w (actionOf code board to cell value) r m′ k′ w′
+  -- the action of a code answers r, and leaves these lists
+  abbrev Does : (code r : ℕ) → (m k w : List ℕ) → Type 0
+  Does code r m k w = Performs boards cells t (actionOf code board to cell value) r (tableOf m k w)
 
-  a-copy : copyAt x board ≡ getD k (cell * boards + board) 0
-  a-copy = copy-is boards cells cell m k w (y .ready) board (y .home)
+  a-copy : copyAt x board ≡ getD (t copies) (cell * boards + board) 0
+  a-copy = copy-is boards cells cell t (y .ready) board (y .home)
 
-  a-main : mainValue x ≡ getD m cell 0
-  a-main = main-is boards cells cell m k w (y .ready)
+  a-main : mainValue x ≡ getD (t main) cell 0
+  a-main = main-is boards cells cell t (y .ready)
 
-  a-live : liveMask x ≡ getD w (cell * 3) 0
-  a-live = live-is boards cells cell m k w (y .ready)
+  a-live : liveMask x ≡ getD (t masks) (cell * 3) 0
+  a-live = live-is boards cells cell t (y .ready)
 
-  a-dirty : dirtyMask x ≡ getD w (cell * 3 + 1) 0
-  a-dirty = dirty-is boards cells cell m k w (y .ready)
+  a-dirty : dirtyMask x ≡ getD (t masks) (cell * 3 + 1) 0
+  a-dirty = dirty-is boards cells cell t (y .ready)
 
-  a-lock : lockMask x ≡ getD w (cell * 3 + 2) 0
-  a-lock = lock-is boards cells cell m k w (y .ready)
+  a-lock : lockMask x ≡ getD (t masks) (cell * 3 + 2) 0
+  a-lock = lock-is boards cells cell t (y .ready)
 
   at-0 : cell * 3 + 0 ≡ cell * 3
   at-0 = omega arith
@@ -42,42 +49,46 @@ module _ (boards cells cell board to value : ℕ) (m k w : List ℕ) (y : Room b
   at-main : cell * 1 + 0 ≡ cell
   at-main = omega arith
 
-  pub does-read : Does 0 (getD k (cell * boards + board) 0) m k w
+  pub does-read : Does 0 (getD (t copies) (cell * boards + board) 0) (t main) (t copies) (t masks)
   unfolding procOf valueOf effect storesBy
-  does-read = record { value = sym a-copy; stored = λ r. record { holds-main = refl; holds-copies = refl; holds-masks = refl } }
+  does-read = record { value = sym a-copy; stored = λ r. by-slice _ _ _ _ refl refl refl }
 
-  pub does-write : (w₁ w₂ : List ℕ) → w₁ ≡ set w (cell * 3) (withBoard (getD w (cell * 3) 0) board) → w₂ ≡ set w₁ (cell * 3 + 1) (withBoard (getD w₁ (cell * 3 + 1) 0) board) →
-      Does 1 0 m (set k (cell * boards + board) value) w₂
+  pub does-write : (w₁ w₂ : List ℕ) → w₁ ≡ set (t masks) (cell * 3) (withBoard (getD (t masks) (cell * 3) 0) board) →
+      w₂ ≡ set w₁ (cell * 3 + 1) (withBoard (getD w₁ (cell * 3 + 1) 0) board) → Does 1 0 (t main) (set (t copies) (cell * boards + board) value) w₂
   unfolding procOf valueOf effect storesBy storeBy sliceNumber cellByCell width
   does-write w₁ w₂ e₁ e₂ =
       let n : cell * 3 + 1 ≢ cell * 3 = omega arith in
-      let b : getD w₁ (cell * 3 + 1) 0 ≡ getD w (cell * 3 + 1) 0 = rw e₁ (getD-set-other w (cell * 3) (cell * 3 + 1) _ 0 n) in
-      record { value = refl; stored = λ r. record { holds-main = refl; holds-copies = refl; holds-masks = rw (e₂, b, e₁, a-live, a-dirty, at-0) } }
+      let b : getD w₁ (cell * 3 + 1) 0 ≡ getD (t masks) (cell * 3 + 1) 0 = rw e₁ (getD-set-other (t masks) (cell * 3) (cell * 3 + 1) _ 0 n) in
+      record { value = refl; stored = λ r. by-slice _ _ _ _ refl refl (rw (e₂, b, e₁, a-live, a-dirty, at-0)) }
 
-  pub does-barrier : Does 2 0 m k w
+  pub does-barrier : Does 2 0 (t main) (t copies) (t masks)
   unfolding procOf valueOf effect storesBy
-  does-barrier = record { value = refl; stored = λ r. record { holds-main = refl; holds-copies = refl; holds-masks = refl } }
+  does-barrier = record { value = refl; stored = λ r. by-slice _ _ _ _ refl refl refl }
 
-  pub does-mtoc : (w₁ : List ℕ) → w₁ ≡ set w (cell * 3) (withBoard (getD w (cell * 3) 0) board) → Does 3 0 m (set k (cell * boards + board) (getD m cell 0)) w₁
+  pub does-mtoc : (w₁ : List ℕ) → w₁ ≡ set (t masks) (cell * 3) (withBoard (getD (t masks) (cell * 3) 0) board) →
+      Does 3 0 (t main) (set (t copies) (cell * boards + board) (getD (t main) cell 0)) w₁
   unfolding procOf valueOf effect storesBy storeBy sliceNumber cellByCell width
-  does-mtoc w₁ e = record { value = refl; stored = λ r. record { holds-main = refl; holds-copies = rw a-main; holds-masks = rw (e, a-live, at-0) } }
+  does-mtoc w₁ e = record { value = refl; stored = λ r. by-slice _ _ _ _ refl (rw a-main) (rw (e, a-live, at-0)) }
 
-  pub does-ctom : (w₁ : List ℕ) → w₁ ≡ set w (cell * 3 + 1) (withoutBoard (getD w (cell * 3 + 1) 0) board) → Does 4 0 (set m cell (getD k (cell * boards + board) 0)) k w₁
+  pub does-ctom : (w₁ : List ℕ) → w₁ ≡ set (t masks) (cell * 3 + 1) (withoutBoard (getD (t masks) (cell * 3 + 1) 0) board) →
+      Does 4 0 (set (t main) cell (getD (t copies) (cell * boards + board) 0)) (t copies) w₁
   unfolding procOf valueOf effect storesBy storeBy sliceNumber cellByCell width
-  does-ctom w₁ e = record { value = refl; stored = λ r. record { holds-main = rw (a-copy, at-main); holds-copies = refl; holds-masks = rw (e, a-dirty) } }
+  does-ctom w₁ e = record { value = refl; stored = λ r. by-slice _ _ _ _ (rw (a-copy, at-main)) refl (rw (e, a-dirty)) }
 
-  pub does-ctoc : (w₁ : List ℕ) → w₁ ≡ set w (cell * 3) (withBoard (getD w (cell * 3) 0) to) → Does 5 0 m (set k (cell * boards + to) (getD k (cell * boards + board) 0)) w₁
+  pub does-ctoc : (w₁ : List ℕ) → w₁ ≡ set (t masks) (cell * 3) (withBoard (getD (t masks) (cell * 3) 0) to) →
+      Does 5 0 (t main) (set (t copies) (cell * boards + to) (getD (t copies) (cell * boards + board) 0)) w₁
   unfolding procOf valueOf effect storesBy storeBy sliceNumber cellByCell width
-  does-ctoc w₁ e = record { value = refl; stored = λ r. record { holds-main = refl; holds-copies = rw a-copy; holds-masks = rw (e, a-live, at-0) } }
+  does-ctoc w₁ e = record { value = refl; stored = λ r. by-slice _ _ _ _ refl (rw a-copy) (rw (e, a-live, at-0)) }
 
-  pub does-drop : (w₁ : List ℕ) → w₁ ≡ set w (cell * 3) (withoutBoard (getD w (cell * 3) 0) board) → Does 6 0 m (set k (cell * boards + board) 0) w₁
+  pub does-drop : (w₁ : List ℕ) → w₁ ≡ set (t masks) (cell * 3) (withoutBoard (getD (t masks) (cell * 3) 0) board) →
+      Does 6 0 (t main) (set (t copies) (cell * boards + board) 0) w₁
   unfolding procOf valueOf effect storesBy storeBy sliceNumber cellByCell width
-  does-drop w₁ e = record { value = refl; stored = λ r. record { holds-main = refl; holds-copies = refl; holds-masks = rw (e, a-live, at-0) } }
+  does-drop w₁ e = record { value = refl; stored = λ r. by-slice _ _ _ _ refl refl (rw (e, a-live, at-0)) }
 
-  pub does-acquire : (w₁ : List ℕ) → w₁ ≡ set w (cell * 3 + 2) (withBoard (getD w (cell * 3 + 2) 0) board) → Does 7 0 m k w₁
+  pub does-acquire : (w₁ : List ℕ) → w₁ ≡ set (t masks) (cell * 3 + 2) (withBoard (getD (t masks) (cell * 3 + 2) 0) board) → Does 7 0 (t main) (t copies) w₁
   unfolding procOf valueOf effect storesBy storeBy sliceNumber cellByCell width
-  does-acquire w₁ e = record { value = refl; stored = λ r. record { holds-main = refl; holds-copies = refl; holds-masks = rw (e, a-lock) } }
+  does-acquire w₁ e = record { value = refl; stored = λ r. by-slice _ _ _ _ refl refl (rw (e, a-lock)) }
 
-  pub does-release : (w₁ : List ℕ) → w₁ ≡ set w (cell * 3 + 2) (withoutBoard (getD w (cell * 3 + 2) 0) board) → Does 8 0 m k w₁
+  pub does-release : (w₁ : List ℕ) → w₁ ≡ set (t masks) (cell * 3 + 2) (withoutBoard (getD (t masks) (cell * 3 + 2) 0) board) → Does 8 0 (t main) (t copies) w₁
   unfolding procOf valueOf effect storesBy storeBy sliceNumber cellByCell width
-  does-release w₁ e = record { value = refl; stored = λ r. record { holds-main = refl; holds-copies = refl; holds-masks = rw (e, a-lock) } }
+  does-release w₁ e = record { value = refl; stored = λ r. by-slice _ _ _ _ refl refl (rw (e, a-lock)) }

@@ -10,7 +10,7 @@ use lib.ListN.{length}
 use Rattle.protocol.specs.declared.Action.{Action}
 use Rattle.protocol.specs.declared.Answer.{Answer}
 use Rattle.protocol.specs.Names.{ruleOf, procOf}
-use Rattle.protocol.specs.Slices.{Slice, Table, tableOf, main, copies, masks, sizesGood}
+use Rattle.protocol.specs.Slices.{Table, sizesGood}
 use Rattle.protocol.specs.Cell.{cellOf}
 use Rattle.protocol.specs.Soundness.{sound}
 use Rattle.protocol.specs.First.{FirstIs, NoneHolds}
@@ -27,105 +27,104 @@ use Rattle.table.specs.declared.Checked.{Checked}
 use Rattle.table.specs.declared.Checked.the-variants.{Sound, Unsound}
 use Rattle.table.specs.Statements.{Holds, answerOf, foundOf, Freshens, Checks, Steps}
 
--- three lists that hold a table are that table
-pub held : (u : Table) (m k w : List ℕ) → Holds u m k w → tableOf m k w ≡ u
-held u m k w h = fun-ext go
-  where
-    go : (s : Slice) → tableOf m k w s ≡ u s
-    go main = h .holds-main
-    go copies = h .holds-copies
-    go masks = h .holds-masks
+-- a table that holds what another does is that table
+pub held : (t u : Table) → Holds t u → t ≡ u
+held t u h = fun-ext h
 
 not-both : (c : ℕ) → Sound ≡ Unsound c → ⊥
 not-both c e = let z : _≡_ {A = ℕ} 0 1 = cc in omega arith
 
-module _ (boards cells : ℕ) (m k w : List ℕ) where
+module _ (boards cells : ℕ) (t : Table) where
   -- ---- `step`
 
-  module _ (rule : ℕ) (a : Action) (r : Answer) (m′ k′ w′ : List ℕ) (s : Steps boards cells m k w rule a r m′ k′ w′) where
+  module _ (rule : ℕ) (a : Action) (r : Answer) (t′ : Table) (s : Steps boards cells t rule a r t′) where
     -- demand 1
-    pub step-refused : (n : ℕ) → n ≢ 0 → (r .number ≡ n) ↔ FirstIs n (refusals rule boards cells (seen boards cells (tableOf m k w) (a .cell)) a)
-    step-refused n h = rw (s .number) (refused-exactly rule boards cells (tableOf m k w) a n h)
+    pub step-refused : (n : ℕ) → n ≢ 0 → (r .number ≡ n) ↔ FirstIs n (refusals rule boards cells (seen boards cells t (a .cell)) a)
+    step-refused n h = rw (s .number) (refused-exactly rule boards cells t a n h)
 
-    pub step-accepted-exactly : (r .number ≡ 0) ↔ NoneHolds (refusals rule boards cells (seen boards cells (tableOf m k w) (a .cell)) a)
-    step-accepted-exactly = rw (s .number) (accepted-exactly rule boards cells (tableOf m k w) a)
+    pub step-accepted-exactly : (r .number ≡ 0) ↔ NoneHolds (refusals rule boards cells (seen boards cells t (a .cell)) a)
+    step-accepted-exactly = rw (s .number) (accepted-exactly rule boards cells t a)
 
     pub step-only-reads-answer : a .code ≢ 0 → r .value ≡ 0
-    step-only-reads-answer h = s .value ∙ only-reads-answer rule boards cells (tableOf m k w) a h
+    step-only-reads-answer h = s .value ∙ only-reads-answer rule boards cells t a h
 
-    pub step-changes-nothing : r .number ≢ 0 → (m′ ≡ m) × (k′ ≡ k) × (w′ ≡ w) × (r .value ≡ 0)
+    pub step-changes-nothing : r .number ≢ 0 → Holds t′ t × (r .value ≡ 0)
     step-changes-nothing h =
-        let f = refused-changes-nothing rule boards cells (tableOf m k w) a (λ z. h (s .number ∙ z)) in (
-          s .slices .holds-main ∙ ap (λ (t : Table). t main) (f .0),
-          s .slices .holds-copies ∙ ap (λ (t : Table). t copies) (f .0),
-          s .slices .holds-masks ∙ ap (λ (t : Table). t masks) (f .0),
-          s .value ∙ f .1,
-        )
+        let f = refused-changes-nothing rule boards cells t a (λ z. h (s .number ∙ z)) in
+        ((λ i. s .slices i ∙ ap (λ (u : Table). u i) (f .0)), s .value ∙ f .1)
 
     -- demand 2
-    pub step-accepted : NoOtherHolds (refusals rule boards cells (seen boards cells (tableOf m k w) (a .cell)) a) →
-        (r .number ≡ 0) ↔ Guard boards (asState (cellOf boards cells (tableOf m k w) (a .cell))) (ruleOf rule) (procOf a)
-    step-accepted quiet = rw (s .number) (accepted-when-allowed rule boards cells (tableOf m k w) a quiet)
+    pub step-accepted : NoOtherHolds (refusals rule boards cells (seen boards cells t (a .cell)) a) →
+        (r .number ≡ 0) ↔ Guard boards (asState (cellOf boards cells t (a .cell))) (ruleOf rule) (procOf a)
+    step-accepted quiet = rw (s .number) (accepted-when-allowed rule boards cells t a quiet)
 
-    pub step-value : r .number ≡ 0 → r .value ≡ Value (asState (cellOf boards cells (tableOf m k w) (a .cell))) (procOf a)
-    step-value e = s .value ∙ value-is rule boards cells (tableOf m k w) a (sym (s .number) ∙ e)
+    pub step-value : r .number ≡ 0 → r .value ≡ Value (asState (cellOf boards cells t (a .cell))) (procOf a)
+    step-value e = s .value ∙ value-is rule boards cells t a (sym (s .number) ∙ e)
 
-    pub step-state : r .number ≡ 0 → asState (cellOf boards cells (tableOf m′ k′ w′) (a .cell)) ≡ Effect (ruleOf rule) (asState (cellOf boards cells (tableOf m k w) (a .cell))) (procOf a)
-    step-state e = rw (held (tableAfter rule boards cells (tableOf m k w) a) m′ k′ w′ (s .slices)) (state-is rule boards cells (tableOf m k w) a (sym (s .number) ∙ e))
+    pub step-state : r .number ≡ 0 → asState (cellOf boards cells t′ (a .cell)) ≡ Effect (ruleOf rule) (asState (cellOf boards cells t (a .cell))) (procOf a)
+    step-state e = rw (held t′ (tableAfter rule boards cells t a) (s .slices)) (state-is rule boards cells t a (sym (s .number) ∙ e))
 
-    pub step-others : (d : ℕ) → d ≢ a .cell → cellOf boards cells (tableOf m′ k′ w′) d ≡ cellOf boards cells (tableOf m k w) d
-    step-others d n = rw (held (tableAfter rule boards cells (tableOf m k w) a) m′ k′ w′ (s .slices)) (others-stay rule boards cells (tableOf m k w) a d n)
+    pub step-others : (d : ℕ) → d ≢ a .cell → cellOf boards cells t′ d ≡ cellOf boards cells t d
+    step-others d n = rw (held t′ (tableAfter rule boards cells t a) (s .slices)) (others-stay rule boards cells t a d n)
 
-    pub step-sound-after : r .number ≡ 0 → sound (ruleOf rule) boards (cellOf boards cells (tableOf m′ k′ w′) (a .cell)) ≡ true
-    step-sound-after e = rw (held (tableAfter rule boards cells (tableOf m k w) a) m′ k′ w′ (s .slices)) (sound-after rule boards cells (tableOf m k w) a (sym (s .number) ∙ e))
+    pub step-sound-after : r .number ≡ 0 → sound (ruleOf rule) boards (cellOf boards cells t′ (a .cell)) ≡ true
+    step-sound-after e = rw (held t′ (tableAfter rule boards cells t a) (s .slices)) (sound-after rule boards cells t a (sym (s .number) ∙ e))
 
   -- ---- `check`
 
-  module _ (rule : ℕ) (r : Checked) (s : Checks boards cells m k w rule r) where
+  module _ (rule : ℕ) (r : Checked) (s : Checks boards cells t rule r) where
     -- demand 1
-    pub check-answers-1 : (answerOf r .number ≡ 1) ↔ (sizesGood boards cells (tableOf m k w) ≡ false)
-    check-answers-1 = rw (s .number) (check-1 rule boards cells (tableOf m k w))
+    pub check-answers-1 : (answerOf r .number ≡ 1) ↔ (sizesGood boards cells t ≡ false)
+    check-answers-1 = rw (s .number) (check-1 rule boards cells t)
 
-    pub check-answers-2 : (answerOf r .number ≡ 2) ↔ ((sizesGood boards cells (tableOf m k w) ≡ true) × (4 < rule))
-    check-answers-2 = rw (s .number) (check-2 rule boards cells (tableOf m k w))
+    pub check-answers-2 : (answerOf r .number ≡ 2) ↔ ((sizesGood boards cells t ≡ true) × (4 < rule))
+    check-answers-2 = rw (s .number) (check-2 rule boards cells t)
 
-    pub check-is-accepted : (answerOf r .number ≡ 0) ↔ ((sizesGood boards cells (tableOf m k w) ≡ true) × (rule ≤ 4))
-    check-is-accepted = rw (s .number) (check-accepted rule boards cells (tableOf m k w))
+    pub check-is-accepted : (answerOf r .number ≡ 0) ↔ ((sizesGood boards cells t ≡ true) × (rule ≤ 4))
+    check-is-accepted = rw (s .number) (check-accepted rule boards cells t)
 
-    pub check-says-sound : r ≡ Sound → AllSound rule boards cells (tableOf m k w)
-    unfolding answerOf
-    check-says-sound e = check-sound rule boards cells (tableOf m k w) .0 (go (lowestUnsound rule boards cells (tableOf m k w)) (sym e ∙ s .accepted (ap (λ (c : Checked). answerOf c .number) e)))
+    pub check-says-sound : (r ≡ Sound) ↔ ((sizesGood boards cells t ≡ true) × (rule ≤ 4) × AllSound rule boards cells t)
+    unfolding answerOf foundOf
+    check-says-sound = (there, λ f. s .accepted (check-is-accepted .1 (f .0, f .1)) ∙ ap foundOf (check-sound rule boards cells t .1 (f .2)))
       where
         go : (o : Option ℕ) → Sound ≡ foundOf o → o ≡ none
         go none d = refl
-        go (some c) d = absurd (not-both c (unfold foundOf in d))
+        go (some c) d = absurd (not-both c d)
 
-    pub check-says-unsound : (c : ℕ) → r ≡ Unsound c → LowestUnsound rule boards cells (tableOf m k w) c
-    unfolding answerOf
-    check-says-unsound c e = check-unsound rule boards cells (tableOf m k w) c .0 (go (lowestUnsound rule boards cells (tableOf m k w)) (sym e ∙ s .accepted (ap (λ (c : Checked). answerOf c .number) e)))
+        there : r ≡ Sound → (sizesGood boards cells t ≡ true) × (rule ≤ 4) × AllSound rule boards cells t
+        there e =
+            let z : answerOf r .number ≡ 0 = ap (λ (c : Checked). answerOf c .number) e in
+            let f = check-is-accepted .0 z in
+            (f .0, f .1, check-sound rule boards cells t .0 (go (lowestUnsound rule boards cells t) (sym e ∙ s .accepted z)))
+
+    pub check-says-unsound : (c : ℕ) → (r ≡ Unsound c) ↔ ((sizesGood boards cells t ≡ true) × (rule ≤ 4) × LowestUnsound rule boards cells t c)
+    unfolding answerOf foundOf
+    check-says-unsound c = (there, λ f. s .accepted (check-is-accepted .1 (f .0, f .1)) ∙ ap foundOf (check-unsound rule boards cells t c .1 (f .2)))
       where
         go : (o : Option ℕ) → Unsound c ≡ foundOf o → o ≡ some c
-        go none d = absurd (not-both c (unfold foundOf in sym d))
-        go (some b) d = unfold foundOf in cc
+        go none d = absurd (not-both c (sym d))
+        go (some b) d = cc
+
+        there : r ≡ Unsound c → (sizesGood boards cells t ≡ true) × (rule ≤ 4) × LowestUnsound rule boards cells t c
+        there e =
+            let z : answerOf r .number ≡ 0 = ap (λ (c : Checked). answerOf c .number) e in
+            let f = check-is-accepted .0 z in
+            (f .0, f .1, check-unsound rule boards cells t c .0 (go (lowestUnsound rule boards cells t) (sym e ∙ s .accepted z)))
 
   -- ---- `fresh`
 
-  module _ (starting : List ℕ) (r : Answer) (m′ k′ w′ : List ℕ) (s : Freshens boards cells m k w starting r m′ k′ w′) where
+  module _ (starting : List ℕ) (r : Answer) (t′ : Table) (s : Freshens boards cells t starting r t′) where
     -- demand 1
-    pub fresh-answers-1 : (r .number ≡ 1) ↔ ((sizesGood boards cells (tableOf m k w) ≡ false) ⊎ (length starting ≢ cells))
-    fresh-answers-1 = rw (s .number) (fresh-1 boards cells starting (tableOf m k w))
+    pub fresh-answers-1 : (r .number ≡ 1) ↔ ((sizesGood boards cells t ≡ false) ⊎ (length starting ≢ cells))
+    fresh-answers-1 = rw (s .number) (fresh-1 boards cells starting t)
 
-    pub fresh-is-accepted : (r .number ≡ 0) ↔ ((sizesGood boards cells (tableOf m k w) ≡ true) × (length starting ≡ cells))
-    fresh-is-accepted = rw (s .number) (fresh-accepted boards cells starting (tableOf m k w))
+    pub fresh-is-accepted : (r .number ≡ 0) ↔ ((sizesGood boards cells t ≡ true) × (length starting ≡ cells))
+    fresh-is-accepted = rw (s .number) (fresh-accepted boards cells starting t)
 
-    pub fresh-changes-nothing : r .number ≢ 0 → (m′ ≡ m) × (k′ ≡ k) × (w′ ≡ w) × (r .value ≡ 0)
+    pub fresh-changes-nothing : r .number ≢ 0 → Holds t′ t × (r .value ≡ 0)
     fresh-changes-nothing h =
-        let t = fresh-refused-changes-nothing boards cells starting (tableOf m k w) (λ z. h (s .number ∙ z)) in (
-          s .slices .holds-main ∙ ap (λ (t : Table). t main) t,
-          s .slices .holds-copies ∙ ap (λ (t : Table). t copies) t,
-          s .slices .holds-masks ∙ ap (λ (t : Table). t masks) t,
-          s .value ∙ fresh-value boards cells starting (tableOf m k w),
-        )
+        let f = fresh-refused-changes-nothing boards cells starting t (λ z. h (s .number ∙ z)) in
+        ((λ i. s .slices i ∙ ap (λ (u : Table). u i) f), s .value ∙ fresh-value boards cells starting t)
 
-    pub fresh-gives : r .number ≡ 0 → tableOf m′ k′ w′ ≡ freshTable boards starting
-    fresh-gives e = held (freshAfter boards cells starting (tableOf m k w)) m′ k′ w′ (s .slices) ∙ fresh-fills boards cells starting (tableOf m k w) (sym (s .number) ∙ e)
+    pub fresh-gives : r .number ≡ 0 → t′ ≡ freshTable boards starting
+    fresh-gives e = held t′ (freshAfter boards cells starting t) (s .slices) ∙ fresh-fills boards cells starting t (sym (s .number) ∙ e)

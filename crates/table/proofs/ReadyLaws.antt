@@ -1,8 +1,7 @@
--- Slices of good sizes: where a cell's numbers stand in them. Assumes nothing.
+-- A table of good sizes: where a cell's numbers stand in its slices. Assumes nothing.
 use mathlib.Core.Path.{_≡_, refl, sym, _∙_}
 use mathlib.Core.Logic.{_≢_}
 use mathlib.Core.Bool.{Bool, true, false, cond}
-use mathlib.Core.List.{List}
 use Prim.Native.Nat.{ℕ, _+_, _*_, _^_, _<_, _≤_}
 use native.Mathlib.Omega.{arith}
 use native.Mathlib.Nat.{mul-le-mul-right, mul-le-mul-left}
@@ -11,25 +10,22 @@ use lib.Dec.{eqb}
 use lib.ListN.{length, getD}
 use borrow.Author.Tests.{lt-ltb, eqb-false}
 use Rattle.protocol.specs.Masks.{lowestBoard}
-use Rattle.protocol.specs.Slices.{main, copies, masks, tableOf, width, cellByCell, sizesGood}
+use Rattle.protocol.specs.Slices.{main, copies, masks, Table, width, cellByCell, sizesGood}
 use Rattle.protocol.specs.Cell.{Cell, mainValue, copyAt, liveMask, dirtyMask, lockMask, cellBy, cellOf, currentValue}
 use Rattle.protocol.proofs.Booleans.{clash}
 use Rattle.protocol.proofs.MaskLaws.{has-lowest, high-of-lt}
 use Rattle.protocol.proofs.InWords.{sizes-exactly}
 use Rattle.table.specs.Code.{Ready, Room, MasksAt, currentAt}
 
-pub ready : (boards cells : ℕ) (m k w : List ℕ) → sizesGood boards cells (tableOf m k w) ≡ true → (cell : ℕ) → cell < cells → Ready boards cells cell m k w
-unfolding width
-ready boards cells m k w e cell l =
-    let z = sizes-exactly boards cells (tableOf m k w) .0 e in
+pub ready : (boards cells : ℕ) (t : Table) → sizesGood boards cells t ≡ true → (cell : ℕ) → cell < cells → Ready boards cells cell t
+ready boards cells t e cell l =
+    let z = sizes-exactly boards cells t .0 e in
     record {
       some-board = z .0 .0 .0;
       few-boards = z .0 .0 .1;
       few-cells = z .0 .1 .1;
       inside = l;
-      mains = omega (arith, z .1 main);
-      copied = z .1 copies;
-      masked = z .1 masks;
+      sized = z .1;
     }
 
 -- the lowest board of a mask is one of the boards
@@ -40,20 +36,26 @@ lowest-in boards mask l n = go (decLt (lowestBoard mask) boards)
     go (yes h) = h
     go (no h) = absurd (clash (has-lowest mask n) (high-of-lt boards mask (lowestBoard mask) l (omega arith)))
 
-module _ (boards cells cell : ℕ) (m k w : List ℕ) (y : Ready boards cells cell m k w) where
-  pub copy-in : (board : ℕ) → board < boards → cell * boards + board < length k
-  copy-in board l = omega (arith, y .copied, mul-le-mul-right boards (y .inside))
+module _ (boards cells cell : ℕ) (t : Table) (y : Ready boards cells cell t) where
+  pub main-in : cell < length (t main)
+  unfolding width
+  main-in = omega (arith, y .sized main, y .inside)
 
-  pub row-in : cell * boards + boards ≤ length k
-  row-in = omega (arith, y .copied, mul-le-mul-right boards (y .inside))
+  pub row-in : cell * boards + boards ≤ length (t copies)
+  unfolding width
+  row-in = omega (arith, y .sized copies, mul-le-mul-right boards (y .inside))
+
+  pub copy-in : (board : ℕ) → board < boards → cell * boards + board < length (t copies)
+  copy-in board l = omega (arith, row-in)
 
   pub copy-small : (board : ℕ) → board < boards → cell * boards + board < 8192
   copy-small board l = omega (arith, mul-le-mul-left cell (y .few-boards), y .few-boards, y .inside, y .few-cells)
 
-  pub masks-in : cell * 3 + 2 < length w
-  masks-in = omega (arith, y .masked, y .inside)
+  pub masks-in : cell * 3 + 2 < length (t masks)
+  unfolding width
+  masks-in = omega (arith, y .sized masks, y .inside)
 
-  pub room : (board to : ℕ) → board < boards → to < boards → Room boards cells cell board to m k w
+  pub room : (board to : ℕ) → board < boards → to < boards → Room boards cells cell board to t
   room board to l h =
       let f = y .few-boards in
       record {
@@ -62,7 +64,7 @@ module _ (boards cells cell : ℕ) (m k w : List ℕ) (y : Ready boards cells ce
         there = h;
         low = omega arith;
         low-there = omega arith;
-        at-main = omega (arith, y .mains, y .inside);
+        at-main = main-in;
         at-home = copy-in board l;
         at-there = copy-in to h;
         at-masks = masks-in;
@@ -71,30 +73,30 @@ module _ (boards cells cell : ℕ) (m k w : List ℕ) (y : Ready boards cells ce
   -- ---- the cell's numbers
 
   abbrev here : Cell
-  here = cellOf boards cells (tableOf m k w) cell
+  here = cellOf boards cells t cell
 
-  pub main-is : mainValue here ≡ getD m cell 0
+  pub main-is : mainValue here ≡ getD (t main) cell 0
   unfolding cellBy width cellByCell
   main-is = let e : cell * 1 + 0 ≡ cell = omega arith in rw (lt-ltb cell cells (y .inside), e)
 
-  pub copy-is : (board : ℕ) → board < boards → copyAt here board ≡ getD k (cell * boards + board) 0
+  pub copy-is : (board : ℕ) → board < boards → copyAt here board ≡ getD (t copies) (cell * boards + board) 0
   unfolding cellBy width cellByCell
   copy-is board l = rw (lt-ltb board boards l, lt-ltb cell cells (y .inside))
 
-  pub live-is : liveMask here ≡ getD w (cell * 3) 0
+  pub live-is : liveMask here ≡ getD (t masks) (cell * 3) 0
   unfolding cellBy width cellByCell
   live-is = let e : cell * 3 + 0 ≡ cell * 3 = omega arith in rw (lt-ltb cell cells (y .inside), e)
 
-  pub dirty-is : dirtyMask here ≡ getD w (cell * 3 + 1) 0
+  pub dirty-is : dirtyMask here ≡ getD (t masks) (cell * 3 + 1) 0
   unfolding cellBy width cellByCell
   dirty-is = rw (lt-ltb cell cells (y .inside))
 
-  pub lock-is : lockMask here ≡ getD w (cell * 3 + 2) 0
+  pub lock-is : lockMask here ≡ getD (t masks) (cell * 3 + 2) 0
   unfolding cellBy width cellByCell
   lock-is = rw (lt-ltb cell cells (y .inside))
 
   -- the current value, by the cell's masks
-  module _ (live dirty lock : ℕ) (at : MasksAt w cell live dirty lock) where
+  module _ (live dirty lock : ℕ) (at : MasksAt (t masks) cell live dirty lock) where
     pub as-live : liveMask here ≡ live
     as-live = live-is ∙ sym (at .is-live)
 
@@ -104,10 +106,10 @@ module _ (boards cells cell : ℕ) (m k w : List ℕ) (y : Ready boards cells ce
     pub as-lock : lockMask here ≡ lock
     as-lock = lock-is ∙ sym (at .is-lock)
 
-    pub current-is : dirty < 2 ^ boards → currentValue here ≡ currentAt boards cell dirty m k
+    pub current-is : dirty < 2 ^ boards → currentValue here ≡ currentAt boards cell dirty (t main) (t copies)
     unfolding currentValue currentAt
     current-is l = rw as-dirty (go (eqb dirty 0) refl)
       where
-        go : (b : Bool) → eqb dirty 0 ≡ b → cond b (mainValue here) (copyAt here (lowestBoard dirty)) ≡ cond b (getD m cell 0) (getD k (cell * boards + lowestBoard dirty) 0)
+        go : (b : Bool) → eqb dirty 0 ≡ b → cond b (mainValue here) (copyAt here (lowestBoard dirty)) ≡ cond b (getD (t main) cell 0) (getD (t copies) (cell * boards + lowestBoard dirty) 0)
         go true e = main-is
         go false e = copy-is (lowestBoard dirty) (lowest-in boards dirty l (eqb-false dirty 0 e))

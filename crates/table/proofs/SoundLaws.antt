@@ -1,7 +1,6 @@
 -- Soundness of a cell as the code judges it: the masks first, then each board. Assumes nothing.
 use mathlib.Core.Path.{_≡_, refl, sym, _∙_}
 use mathlib.Core.Bool.{Bool, true, false, not, _&&_, _||_}
-use mathlib.Core.List.{List}
 use Prim.Native.Nat.{ℕ, _+_, _*_, _^_, _<_, _≤_}
 use native.Mathlib.Omega.{arith}
 use lib.Dec.{eqb, ltb, leb}
@@ -10,7 +9,7 @@ use lib.ListN.{getD}
 use borrow.Author.Tests.{ltb-true, ltb-false, le-ltb, leb-true, le-leb}
 use Rattle.protocol.specs.Names.{ruleNumber, ruleOf}
 use Rattle.protocol.specs.Masks.{hasBoard, hasAnother}
-use Rattle.protocol.specs.Slices.{tableOf}
+use Rattle.protocol.specs.Slices.{Table, copies, main, masks}
 use Rattle.protocol.specs.Cell.{Cell, copyAt, liveMask, dirtyMask, lockMask, cellOf, currentValue}
 use Rattle.protocol.specs.Soundness.{Condition, noBitAtPOrAbove, notLiveHolds0, lockMaskIs0, dirtyIsLive, oneDirty, liveIsCurrent, oneLock, lockedIsOnly, dirtyIsLocked}
 use Rattle.protocol.specs.Soundness.{from, upTo, askedBy, meets, sound}
@@ -168,12 +167,12 @@ masks-below rule boards live dirty lock e =
     g : Bool
     g = ltb rule 3 || leb (ones lock) 1
 
-module _ (rule boards cells cell : ℕ) (m k w : List ℕ) (h : rule ≤ 4) (y : Ready boards cells cell m k w) (live dirty lock : ℕ) (at : MasksAt w cell live dirty lock) where
+module _ (rule boards cells cell : ℕ) (t : Table) (h : rule ≤ 4) (y : Ready boards cells cell t) (live dirty lock : ℕ) (at : MasksAt (t masks) cell live dirty lock) where
   abbrev here : Cell
-  here = cellOf boards cells (tableOf m k w) cell
+  here = cellOf boards cells t cell
 
   same-masks : masksOk rule boards h here ≡ masksSound rule boards live dirty lock
-  same-masks = rw (as-live boards cells cell m k w y live dirty lock at, as-dirty boards cells cell m k w y live dirty lock at, as-lock boards cells cell m k w y live dirty lock at)
+  same-masks = rw (as-live boards cells cell t y live dirty lock at, as-dirty boards cells cell t y live dirty lock at, as-lock boards cells cell t y live dirty lock at)
 
   pub unsound-masks : masksSound rule boards live dirty lock ≡ false → sound (ruleOf rule) boards here ≡ false
   unsound-masks e = not-so _ (λ s. clash (sym same-masks ∙ sound-masks rule boards h here s) e)
@@ -184,17 +183,17 @@ module _ (rule boards cells cell : ℕ) (m k w : List ℕ) (h : rule ≤ 4) (y :
 
   -- what the code asks of a board's copy
   abbrev pub passes : (now board : ℕ) → Bool
-  passes now board = boardSound rule live dirty lock (getD k (cell * boards + board) 0) now board
+  passes now board = boardSound rule live dirty lock (getD (t copies) (cell * boards + board) 0) now board
 
-  module _ (q : masksSound rule boards live dirty lock ≡ true) (now : ℕ) (z : now ≡ currentAt boards cell dirty m k) where
+  module _ (q : masksSound rule boards live dirty lock ≡ true) (now : ℕ) (z : now ≡ currentAt boards cell dirty (t main) (t copies)) where
     same-board : (p : ℕ) → p < boards → boardOk rule boards h here p ≡ passes now p
     same-board p l =
         rw (
-          as-live boards cells cell m k w y live dirty lock at,
-          as-dirty boards cells cell m k w y live dirty lock at,
-          as-lock boards cells cell m k w y live dirty lock at,
-          copy-is boards cells cell m k w y p l,
-          z ∙ sym (current-is boards cells cell m k w y live dirty lock at (masks-below rule boards live dirty lock q)),
+          as-live boards cells cell t y live dirty lock at,
+          as-dirty boards cells cell t y live dirty lock at,
+          as-lock boards cells cell t y live dirty lock at,
+          copy-is boards cells cell t y p l,
+          z ∙ sym (current-is boards cells cell t y live dirty lock at (masks-below rule boards live dirty lock q)),
         )
 
     pub unsound-board : (p : ℕ) → p < boards → passes now p ≡ false → sound (ruleOf rule) boards here ≡ false

@@ -8,7 +8,7 @@ use lib.Count.{ones}
 use lib.ListN.{length, getD}
 use Rattle.protocol.specs.Names.{Rule, ruleOf, procOf}
 use Rattle.protocol.specs.Masks.{hasBoard, hasAnother, lowestBoard}
-use Rattle.protocol.specs.Slices.{tableOf}
+use Rattle.protocol.specs.Slices.{Slice, main, copies, masks, Table, width}
 use Rattle.protocol.specs.Effects.{effect, valueOf, storesIn}
 use Rattle.table.specs.Statements.{Holds}
 use Rattle.protocol.specs.Cell.{Cell, cellOf, copyAt, liveMask, dirtyMask, lockMask, currentValue}
@@ -16,37 +16,35 @@ use Rattle.protocol.specs.First.{firstNumber}
 use Rattle.protocol.specs.Guards.{guard}
 use Rattle.protocol.specs.declared.Action.{Action}
 
--- slices of good sizes, and a cell of theirs
-pub record Ready (boards cells cell : ℕ) (main copies masks : List ℕ) : Type 0 where
+-- a table of good sizes, and a cell of it
+pub record Ready (boards cells cell : ℕ) (t : Table) : Type 0 where
   pub some-board : 1 ≤ boards
   pub few-boards : boards ≤ 16
   pub few-cells : cells ≤ 512
   pub inside : cell < cells
-  pub mains : length main ≡ cells
-  pub copied : length copies ≡ cells * boards
-  pub masked : length masks ≡ cells * 3
+  pub sized : (s : Slice) → length (t s) ≡ cells * width boards s
 
 -- and the two boards of an action, with the places that it uses
-pub record Room (boards cells cell board to : ℕ) (main copies masks : List ℕ) : Type 0 where
-  pub ready : Ready boards cells cell main copies masks
+pub record Room (boards cells cell board to : ℕ) (t : Table) : Type 0 where
+  pub ready : Ready boards cells cell t
   pub home : board < boards
   pub there : to < boards
   pub low : board < 16
   pub low-there : to < 16
-  pub at-main : cell < length main
-  pub at-home : cell * boards + board < length copies
-  pub at-there : cell * boards + to < length copies
-  pub at-masks : cell * 3 + 2 < length masks
+  pub at-main : cell < length (t main)
+  pub at-home : cell * boards + board < length (t copies)
+  pub at-there : cell * boards + to < length (t copies)
+  pub at-masks : cell * 3 + 2 < length (t masks)
 
 -- the masks of a cell
-pub record MasksAt (masks : List ℕ) (cell live dirty lock : ℕ) : Type 0 where
-  pub is-live : live ≡ getD masks (cell * 3) 0
-  pub is-dirty : dirty ≡ getD masks (cell * 3 + 1) 0
-  pub is-lock : lock ≡ getD masks (cell * 3 + 2) 0
+pub record MasksAt (inMasks : List ℕ) (cell live dirty lock : ℕ) : Type 0 where
+  pub is-live : live ≡ getD inMasks (cell * 3) 0
+  pub is-dirty : dirty ≡ getD inMasks (cell * 3 + 1) 0
+  pub is-lock : lock ≡ getD inMasks (cell * 3 + 2) 0
 
 -- the dirty copy if there is one, else main
-unfoldable pub currentAt : (boards cell dirty : ℕ) → (main copies : List ℕ) → ℕ
-currentAt boards cell dirty main copies = cond (eqb dirty 0) (getD main cell 0) (getD copies (cell * boards + lowestBoard dirty) 0)
+unfoldable pub currentAt : (boards cell dirty : ℕ) → (inMain inCopies : List ℕ) → ℕ
+currentAt boards cell dirty inMain inCopies = cond (eqb dirty 0) (getD inMain cell 0) (getD inCopies (cell * boards + lowestBoard dirty) 0)
 
 -- soundness, as far as the three masks show it
 unfoldable pub masksSound : (rule boards live dirty lock : ℕ) → Bool
@@ -65,10 +63,10 @@ boardSound rule live dirty lock copy current board =
     && (ltb rule 3 || (not (hasBoard lock board) || not (hasAnother live board)))
     && (ltb rule 4 || (not (hasBoard dirty board) || hasBoard lock board))
 
--- n is what the guard of an action answers on every cell with these masks; differs: its board's copy is not the current value
-abbrev pub GuardGives : (rule live dirty lock : ℕ) → (differs : Bool) → Action → (n : ℕ) → Type 0
-GuardGives rule live dirty lock differs a n =
-    (x : Cell) → liveMask x ≡ live → dirtyMask x ≡ dirty → lockMask x ≡ lock → not (eqb (copyAt x (a .board)) (currentValue x)) ≡ differs →
+-- n is what the guard of an action answers on every cell with these masks, this copy at its board, and this current value
+abbrev pub GuardGives : (rule live dirty lock copy current : ℕ) → Action → (n : ℕ) → Type 0
+GuardGives rule live dirty lock copy current a n =
+    (x : Cell) → liveMask x ≡ live → dirtyMask x ≡ dirty → lockMask x ≡ lock → copyAt x (a .board) ≡ copy → currentValue x ≡ current →
     n ≡ firstNumber (guard x (ruleOf rule) (procOf a))
 
 -- the action of these numbers
@@ -76,6 +74,6 @@ abbrev pub actionOf : (code board to cell value : ℕ) → Action
 actionOf code board to cell value = record { code = code; board = board; to = to; cell = cell; value = value }
 
 -- what an accepted action answers and stores, whatever the rule
-pub record Performs (boards cells : ℕ) (m k w : List ℕ) (a : Action) (r : ℕ) (m′ k′ w′ : List ℕ) : Type 0 where
-  pub value : r ≡ valueOf (cellOf boards cells (tableOf m k w) (a .cell)) (procOf a)
-  pub stored : (rule : Rule) → Holds (storesIn boards (a .cell) (tableOf m k w) (effect rule boards (cellOf boards cells (tableOf m k w) (a .cell)) (procOf a))) m′ k′ w′
+pub record Performs (boards cells : ℕ) (t : Table) (a : Action) (r : ℕ) (t′ : Table) : Type 0 where
+  pub value : r ≡ valueOf (cellOf boards cells t (a .cell)) (procOf a)
+  pub stored : (rule : Rule) → Holds t′ (storesIn boards (a .cell) t (effect rule boards (cellOf boards cells t (a .cell)) (procOf a)))

@@ -27,11 +27,9 @@ pub fn refusal(
     if rule > 4 {
         return protocol::BAD_RULE;
     }
-    if rules::malformed(a) {
-        return protocol::MALFORMED;
-    }
-    if rules::missing(rule, a.code) {
-        return protocol::MISSING;
+    let form = rules::form(rule, a);
+    if form != protocol::ACCEPTED {
+        return form;
     }
     if rules::off_board(boards, a) {
         return protocol::OFF_BOARD;
@@ -46,8 +44,8 @@ pub fn refusal(
     let m = cell::masks_at(masks, cell);
     let now = cell::current(boards, main, copies, cell, m.dirty);
     let board = a.board as usize;
-    let differs = copies[cell * boards + board] != now;
-    rules::guard(rule, m, differs, a)
+    let copy = copies[cell * boards + board];
+    rules::guard(rule, m, copy, now, a)
 }
 
 // The effect of an accepted action, and the value that it answers.
@@ -63,8 +61,8 @@ pub fn perform(
     cell: usize,
     value: u32,
 ) -> u32
-    requires { ⌜ Room boards cells cell board to (now main) (now copies) (now masks) × (code ≤ 8) ⌝ }
-    ensures { λ r. ⌜ Performs boards cells (now (main .entry)) (now (copies .entry)) (now (masks .entry)) (actionOf code board to cell value) r (now (main .exit)) (now (copies .exit)) (now (masks .exit)) ⌝ }
+    requires { ⌜ Room boards cells cell board to (tableOf (now main) (now copies) (now masks)) × (code ≤ 8) ⌝ }
+    ensures { λ r. ⌜ Performs boards cells (tableOf (now (main .entry)) (now (copies .entry)) (now (masks .entry))) (actionOf code board to cell value) r (tableOf (now (main .exit)) (now (copies .exit)) (now (masks .exit))) ⌝ }
 {
     let home = cell * boards + board;
     let there = cell * boards + to;
@@ -112,12 +110,10 @@ pub fn perform(
             mask::mark(masks, lock, board);
             0
         }
-        // Release
-        8 => {
+        // Release: 8, for a code above it is refused
+        _ => {
             mask::unmark(masks, lock, board);
             0
         }
-        // Not reached: refusal 3 came before.
-        9..=255 => 0,
     }
 }

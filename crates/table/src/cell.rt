@@ -76,7 +76,7 @@ pub fn sound(
     masks: &[u16],
     cell: usize,
 ) -> bool
-    requires { ⌜ (rule ≤ 4) × Ready boards cells cell (now main) (now copies) (now masks) ⌝ }
+    requires { ⌜ (rule ≤ 4) × Ready boards cells cell (tableOf (now main) (now copies) (now masks)) ⌝ }
     ensures { λ r. ⌜ r ≡ isSound (ruleOf rule) boards (cellOf boards cells (tableOf (now (main .entry)) (now (copies .entry)) (now (masks .entry))) cell) ⌝ }
 {
     let m = masks_at(masks, cell);

@@ -46,7 +46,7 @@ pub fn fresh(
     copies: &mut [u32],
     masks: &mut [u16],
 ) -> Answer
-    ensures { λ r. ⌜ Freshens boards cells (now (main .entry)) (now (copies .entry)) (now (masks .entry)) (now (starting .entry)) r (now (main .exit)) (now (copies .exit)) (now (masks .exit)) ⌝ }
+    ensures { λ r. ⌜ Freshens boards cells (tableOf (now (main .entry)) (now (copies .entry)) (now (masks .entry))) (now (starting .entry)) r (tableOf (now (main .exit)) (now (copies .exit)) (now (masks .exit))) ⌝ }
 {
     if !sizes_good(boards, cells, main, copies, masks) {
         return Answer {
@@ -78,7 +78,7 @@ pub fn check(
     copies: &[u32],
     masks: &[u16],
 ) -> Checked
-    ensures { λ r. ⌜ Checks boards cells (now (main .entry)) (now (copies .entry)) (now (masks .entry)) rule r ⌝ }
+    ensures { λ r. ⌜ Checks boards cells (tableOf (now (main .entry)) (now (copies .entry)) (now (masks .entry))) rule r ⌝ }
 {
     if !sizes_good(boards, cells, main, copies, masks) {
         return Checked::Refused(protocol::BAD_SIZES);
@@ -119,7 +119,7 @@ pub fn step(
     masks: &mut [u16],
     action: Action,
 ) -> Answer
-    ensures { λ r. ⌜ Steps boards cells (now (main .entry)) (now (copies .entry)) (now (masks .entry)) rule action r (now (main .exit)) (now (copies .exit)) (now (masks .exit)) ⌝ }
+    ensures { λ r. ⌜ Steps boards cells (tableOf (now (main .entry)) (now (copies .entry)) (now (masks .entry))) rule action r (tableOf (now (main .exit)) (now (copies .exit)) (now (masks .exit))) ⌝ }
 {
     let number = action::refusal(rule, boards, cells, main, copies, masks, action);
     if number != protocol::ACCEPTED {

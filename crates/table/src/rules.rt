@@ -2,25 +2,13 @@
 ghost use mathlib.Core.Path.{_≡_};
 ghost use mathlib.Core.Bool.{cond, false};
 ghost use Prim.Native.Nat.{_<_, _≤_};
-ghost use Rattle.protocol.specs.Step.{malformed as isMalformed, missing as isMissing, offBoard};
+ghost use mathlib.Core.List.{[], _∷_};
+ghost use Rattle.protocol.specs.First.{when, firstNumber};
+ghost use Rattle.protocol.specs.Step.{malformed, missing, offBoard};
 ghost use Rattle.table.specs.Code.{GuardGives};
 use crate::cell::Masks;
 use crate::mask;
 use protocol::Action;
-
-// The code is above 8, or an unused field is not 0.
-pub fn malformed(a: Action) -> bool
-    ensures { λ r. ⌜ r ≡ isMalformed a ⌝ }
-{
-    (a.code > 8) | ((a.code != 5) & (a.to != 0)) | ((a.code != 1) & (a.value != 0))
-}
-
-// The rule does not have the action.
-pub fn missing(rule: u8, code: u8) -> bool
-    ensures { λ r. ⌜ r ≡ isMissing rule code ⌝ }
-{
-    ((code == 2) & (rule != 0)) | (((code == 7) | (code == 8)) & (rule < 3))
-}
 
 // A board that the action names is not below P.
 pub fn off_board(boards: usize, a: Action) -> bool
@@ -36,10 +24,53 @@ fn refuse(test: bool, number: u8, then: u8) -> u8
     if test { number } else { then }
 }
 
-// The guard of an action that the rule has; differs: its board's copy is not the current value.
-pub fn guard(rule: u8, m: Masks, differs: bool, a: Action) -> u8
-    requires { ⌜ (rule ≤ 4) × (a .board < 16) × (a .to < 16) × (isMissing rule (a .code) ≡ false) × (a .code ≤ 8) ⌝ }
-    ensures { λ r. ⌜ GuardGives rule (m .live) (m .dirty) (m .lock) differs a r ⌝ }
+// 3 or 4, or 0 where the action is well formed and the rule has it: `to` is used by code 5 only, `value` by code 1 only.
+pub fn form(rule: u8, a: Action) -> u8
+    ensures { λ r. ⌜ r ≡ firstNumber (when 3 (malformed a) ∷ when 4 (missing rule (a .code)) ∷ []) ⌝ }
+{
+    let to = a.to != 0;
+    let value = a.value != 0;
+    let code = a.code;
+    match code {
+        // Read
+        0 => refuse(to | value, protocol::MALFORMED, 0),
+        // Write
+        1 => refuse(to, protocol::MALFORMED, 0),
+        // Barrier, of rule 0
+        2 => refuse(
+            to | value,
+            protocol::MALFORMED,
+            refuse(rule != 0, protocol::MISSING, 0),
+        ),
+        // MtoC
+        3 => refuse(to | value, protocol::MALFORMED, 0),
+        // CtoM
+        4 => refuse(to | value, protocol::MALFORMED, 0),
+        // CtoC
+        5 => refuse(value, protocol::MALFORMED, 0),
+        // Drop
+        6 => refuse(to | value, protocol::MALFORMED, 0),
+        // Acquire, of rules 3 and 4
+        7 => refuse(
+            to | value,
+            protocol::MALFORMED,
+            refuse(rule < 3, protocol::MISSING, 0),
+        ),
+        // Release, of rules 3 and 4
+        8 => refuse(
+            to | value,
+            protocol::MALFORMED,
+            refuse(rule < 3, protocol::MISSING, 0),
+        ),
+        // no action has such a code
+        9..=255 => protocol::MALFORMED,
+    }
+}
+
+// The guard of an action that `form` lets pass, by its board's copy and the current value.
+pub fn guard(rule: u8, m: Masks, copy: u32, current: u32, a: Action) -> u8
+    requires { ⌜ (rule ≤ 4) × (a .board < 16) × (a .to < 16) × (missing rule (a .code) ≡ false) × (a .code ≤ 8) ⌝ }
+    ensures { λ r. ⌜ GuardGives rule (m .live) (m .dirty) (m .lock) copy current a r ⌝ }
 {
     let board = a.board as usize;
     let to = a.to as usize;
@@ -57,7 +88,7 @@ pub fn guard(rule: u8, m: Masks, differs: bool, a: Action) -> u8
         0 => refuse(
             !live,
             protocol::NOT_LIVE,
-            refuse((rule == 1) & differs, protocol::NOT_CURRENT, 0),
+            refuse((rule == 1) & (copy != current), protocol::NOT_CURRENT, 0),
         ),
         // Write
         1 => refuse(
@@ -101,9 +132,7 @@ pub fn guard(rule: u8, m: Masks, differs: bool, a: Action) -> u8
             protocol::LOCK_BARS,
             refuse(another_live, protocol::ANOTHER_COPY, 0),
         ),
-        // Release
-        8 => refuse((rule == 4) & dirty, protocol::IS_DIRTY, 0),
-        // Not reached: refusal 3 came before.
-        9..=255 => protocol::MALFORMED,
+        // Release: 8, for a code above it has not passed
+        _ => refuse((rule == 4) & dirty, protocol::IS_DIRTY, 0),
     }
 }

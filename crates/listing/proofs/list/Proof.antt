@@ -3,7 +3,7 @@ use mathlib.Core.Path.{sym}
 use Prim.Native.Nat.{_*_, _≤_}
 use native.Mathlib.Omega.{arith}
 use lib.Seq.{length-take-le}
-use Rattle.listing.proofs.LentLaws.{few-copies, fitting}
+use Rattle.listing.proofs.LentLaws.{few-copies, lengths, fitting}
 use borrow.Author.Needs.{needs}
 use Rattle.listing.proofs.list.Statement.{statement}
 use Rattle.listing.proofs.list.Tie as tie
@@ -45,7 +45,7 @@ slice-aggregate-list-with-5 : tie.Need-slice-aggregate-list-with-5
 slice-aggregate-list-with-5 c = search needs
 
 list-with-requires : tie.Need-list-with-requires
-list-with-requires c κs = let l = c .before .before .before .before .before .before .before .before .sizes .ensures in (fitting _ _ _ l _ _ _ (length-take-le _ _ (l .few-cells)) (length-take-le _ _ (few-copies _ _ _ l)) (length-take-le _ _ (few-masks (c .before .before .before .before .before .before .before .before))), omega arith, omega arith)
+list-with-requires c κs = let l = c .before .before .before .before .before .before .before .before .sizes .ensures in (fitting _ _ _ l _ (lengths _ _ _ _ _ (length-take-le _ _ (l .few-cells)) (length-take-le _ _ (few-copies _ _ _ l)) (length-take-le _ _ (few-masks (c .before .before .before .before .before .before .before .before)))), omega arith, omega arith)
 
 same-length : tie.Need-same-length
 same-length c = search needs

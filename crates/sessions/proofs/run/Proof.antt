@@ -18,7 +18,7 @@ same-length-3 : tie.Need-same-length-3
 same-length-3 c = search needs
 
 returns : tie.Need-returns
-returns c = refused _ _ _ _ _ _ _ (c .before .refusal .ensures) (c .if1 .taken)
+returns c = refused _ _ _ _ _ (c .before .refusal .ensures) (c .if1 .taken)
 
 perform-requires : tie.Need-perform-requires
 perform-requires c κs = search needs
@@ -39,7 +39,7 @@ same-length-8 : tie.Need-same-length-8
 same-length-8 c = search needs
 
 returns-2 : tie.Need-returns-2
-returns-2 c = done _ _ _ _ _ _ _ _ _ _ _ _ (sym (c .before .before .before .before .before .before .before .before .before .before .before .before .before .before .before .before .before .refusal .ensures) ∙ c .before .before .before .before .before .before .before .before .before .before .before .before .before .before .before .before .if1 .left) (c .before .before .before .before .before .before .before .before .before .before .perform .ensures)
+returns-2 c = done _ _ _ _ _ _ _ _ (sym (c .before .before .before .before .before .before .before .before .before .before .before .before .before .before .before .before .before .refusal .ensures) ∙ c .before .before .before .before .before .before .before .before .before .before .before .before .before .before .before .before .if1 .left) (c .before .before .before .before .before .before .before .before .before .before .perform .ensures)
 
 pub run-spec : {M : Type 1} → statement M
 run-spec =

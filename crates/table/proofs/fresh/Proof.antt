@@ -20,7 +20,7 @@ same-length-3 : tie.Need-same-length-3
 same-length-3 c = search needs
 
 returns : tie.Need-returns
-returns c = not-started _ _ _ _ _ _ (inl (sym (c .before .sizes-good .ensures) ∙ not-true _ (c .if1 .taken)))
+returns c = not-started _ _ _ _ (inl (sym (c .before .sizes-good .ensures) ∙ not-true _ (c .if1 .taken)))
 
 same-length-4 : tie.Need-same-length-4
 same-length-4 c = search needs
@@ -32,10 +32,10 @@ same-length-6 : tie.Need-same-length-6
 same-length-6 c = search needs
 
 returns-2 : tie.Need-returns-2
-returns-2 c = not-started _ _ _ _ _ _ (inr (c .if2 .taken))
+returns-2 c = not-started _ _ _ _ (inr (c .if2 .taken))
 
 copy-all-requires : tie.Need-copy-all-requires
-copy-all-requires c κs = c .before .if2 .left ∙ sym (main-length _ _ _ _ _ (sym (c .before .before .before .sizes-good .ensures) ∙ not-false _ (c .before .before .if1 .left)))
+copy-all-requires c κs = c .before .if2 .left ∙ sym (main-length _ _ _ (sym (c .before .before .before .sizes-good .ensures) ∙ not-false _ (c .before .before .if1 .left)))
 
 clear-values-requires : tie.Need-clear-values-requires
 clear-values-requires c κs = search needs
@@ -53,7 +53,7 @@ same-length-9 : tie.Need-same-length-9
 same-length-9 c = search needs
 
 returns-3 : tie.Need-returns-3
-returns-3 c = started _ _ _ _ _ _ (sym (c .before .before .before .before .before .before .before .before .before .before .before .before .before .before .sizes-good .ensures) ∙ not-false _ (c .before .before .before .before .before .before .before .before .before .before .before .before .before .if1 .left)) (c .before .before .before .before .before .before .before .before .before .before .before .before .if2 .left) _ _ _ (c .before .before .before .before .before .before .before .before .before .before .copy-all .ensures) (c .before .before .before .before .before .before .clear-values .ensures) (c .before .before .clear-masks .ensures)
+returns-3 c = started _ _ _ _ (sym (c .before .before .before .before .before .before .before .before .before .before .before .before .before .before .sizes-good .ensures) ∙ not-false _ (c .before .before .before .before .before .before .before .before .before .before .before .before .before .if1 .left)) (c .before .before .before .before .before .before .before .before .before .before .before .before .if2 .left) _ (c .before .before .before .before .before .before .before .before .before .before .copy-all .ensures) (c .before .before .before .before .before .before .clear-values .ensures) (c .before .before .clear-masks .ensures)
 
 pub fresh-spec : {M : Type 1} → statement M
 fresh-spec =

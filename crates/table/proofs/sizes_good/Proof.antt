@@ -17,7 +17,7 @@ in-range-requires : tie.Need-in-range-requires
 in-range-requires c κs = search needs
 
 returns : tie.Need-returns
-returns c = sym (out-of-range _ _ _ _ _ (sym (c .before .in-range .ensures) ∙ not-true _ (c .if1 .taken)))
+returns c = sym (out-of-range _ _ _ (sym (c .before .in-range .ensures) ∙ not-true _ (c .if1 .taken)))
 
 mul-result : tie.Need-mul-result
 mul-result c = omega (arith, small-product _ _ (range c))
@@ -26,7 +26,7 @@ mul-result-2 : tie.Need-mul-result-2
 mul-result-2 c = omega (arith, small-cells _ _ (range c))
 
 returns-2 : tie.Need-returns-2
-returns-2 c = by-lengths _ _ _ _ _ (range c)
+returns-2 c = by-lengths _ _ _ (range c)
 
 pub sizes-good-spec : {M : Type 1} → statement M
 sizes-good-spec = tie.close (tie.spec in-range-requires returns mul-result mul-result-2 returns-2)

@@ -18,7 +18,7 @@ same-length-3 : tie.Need-same-length-3
 same-length-3 c = search needs
 
 returns : tie.Need-returns
-returns c = stopped _ _ _ _ _ _ _ _ (c .before .refusal .ensures) (c .if1 .taken)
+returns c = stopped _ _ _ _ _ _ (c .before .refusal .ensures) (c .if1 .taken)
 
 cast-board : tie.Need-cast-board
 cast-board c = search needs
@@ -30,7 +30,7 @@ cast-cell : tie.Need-cast-cell
 cast-cell c = search needs
 
 perform-requires : tie.Need-perform-requires
-perform-requires c κs = accepted-room _ _ _ _ _ _ _ (sym (c .before .before .before .before .before .before .before .refusal .ensures) ∙ c .before .before .before .before .before .before .if1 .left)
+perform-requires c κs = accepted-room _ _ _ _ _ (sym (c .before .before .before .before .before .before .before .refusal .ensures) ∙ c .before .before .before .before .before .before .if1 .left)
 
 same-length-4 : tie.Need-same-length-4
 same-length-4 c = search needs
@@ -42,7 +42,7 @@ same-length-6 : tie.Need-same-length-6
 same-length-6 c = search needs
 
 returns-2 : tie.Need-returns-2
-returns-2 c = went _ _ _ _ _ _ _ _ _ _ _ _ (c .before .before .before .before .before .before .before .before .before .before .before .before .before .before .refusal .ensures) (c .before .before .before .before .before .before .before .before .before .before .before .before .before .if1 .left) (c .before .before .before .before .before .before .perform .ensures)
+returns-2 c = went _ _ _ _ _ _ _ _ (c .before .before .before .before .before .before .before .before .before .before .before .before .before .before .refusal .ensures) (c .before .before .before .before .before .before .before .before .before .before .before .before .before .if1 .left) (c .before .before .before .before .before .before .perform .ensures)
 
 pub step-spec : {M : Type 1} → statement M
 step-spec =

@@ -42,7 +42,7 @@ returns c = lists-refused _ _ _ _ _ (alike (c .before .before .before .before .b
 list-run-requires : tie.Need-list-run-requires
 list-run-requires c κs = let r = c .before .before .before .before .before .before .before .before .before .before .before .before .before .before .before .run in
     let p = c .before .before .before .before .before .before .before .before .before .before .before .before .before .before .before .before .before .before .before .before .before .before .before .before .before .before .before .before .pre in
-    run-told _ _ _ _ _ _ _ _ _ _ _ _ (r .ensures) (c .before .before .before .if1 .left) (sym (alike (c .before .before .before .before .before .before .before .before .before .before .before .before .before .before .before)) ∙ c .before .before .before .if1 .left) (omega (arith, r .kept .1 .1 .1 .1 .0, p .1)) (omega (arith, r .kept .1 .1 .1 .1 .1 .0, p .2))
+    run-told _ _ _ _ _ _ _ _ (r .ensures) (c .before .before .before .if1 .left) (sym (alike (c .before .before .before .before .before .before .before .before .before .before .before .before .before .before .before)) ∙ c .before .before .before .if1 .left) (omega (arith, r .kept .1 .1 .1 .1 .0, p .1)) (omega (arith, r .kept .1 .1 .1 .1 .1 .0, p .2))
 
 same-length-7 : tie.Need-same-length-7
 same-length-7 c = search needs

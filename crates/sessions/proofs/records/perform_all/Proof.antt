@@ -3,6 +3,7 @@ use mathlib.Core.Path.{_≡_, refl}
 use Prim.Native.Nat.{_/_, _-_, _≤_}
 use native.Mathlib.Omega.{arith}
 use lib.ListN.{length, length-set}
+use Rattle.protocol.specs.Slices.{tableOf}
 use Rattle.sessions.specs.File.{actions}
 use Rattle.sessions.specs.Code.{Ran}
 use Rattle.sessions.proofs.RanLaws.{noted-few, ran-none, ran-turn, accepted-inside}
@@ -18,14 +19,14 @@ Inv-loop rule boards cells records main₀ copies₀ masks₀ numbers₀ values�
     × (length masks ≡ length masks₀)
     × (length numbers ≡ length numbers₀)
     × (length values ≡ length values₀)
-    × Ran rule boards cells main₀ copies₀ masks₀ numbers₀ values₀ latest₀ (actions records 0 i) accepted main copies masks numbers values latest
+    × Ran rule boards cells (tableOf main₀ copies₀ masks₀) numbers₀ values₀ latest₀ (actions records 0 i) accepted (tableOf main copies masks) numbers values latest
 
 abbrev μ-loop : tie.MeasureT-loop
 μ-loop rule boards cells records main₀ copies₀ masks₀ numbers₀ values₀ latest₀ count accepted₀ i₀ main copies masks numbers values latest accepted i = length records / 9 - i
 
 loop-holds : tie.Need-loop-holds Inv-loop μ-loop
 unfolding actions
-loop-holds c = (omega arith, omega arith, refl, refl, refl, refl, refl, ran-none _ _ _ _ _ _ _ _ _)
+loop-holds c = (omega arith, omega arith, refl, refl, refl, refl, refl, ran-none _ _ _ _ _ _ _)
 
 mul-action-at : tie.Need-mul-action-at Inv-loop μ-loop
 mul-action-at c = omega (arith, c .before .before .before .before .before .before .before .before .before .pre .few)
@@ -46,7 +47,7 @@ slice-write-values : tie.Need-slice-write-values Inv-loop μ-loop
 slice-write-values c = omega (arith, c .before .before .before .before .before .before .before .before .before .before .before .before .before .before .before .before .before .before .before .before .pre .room-values, c .before .before .before .before .before .before .before .before .before .before .before .before .loop .inv .6)
 
 note-requires : tie.Need-note-requires Inv-loop μ-loop
-note-requires c κs = λ e. omega (arith, c .before .before .before .before .before .before .before .before .before .before .before .before .before .before .before .before .before .before .before .before .before .pre .room-latest, c .before .before .before .before .before .before .before .before .before .before .before .before .before .loop .inv .7 .same-length, accepted-inside _ _ _ _ _ _ _ _ _ _ _ (c .before .before .before .before .before .before .before .step .ensures) e)
+note-requires c κs = λ e. omega (arith, c .before .before .before .before .before .before .before .before .before .before .before .before .before .before .before .before .before .before .before .before .before .pre .room-latest, c .before .before .before .before .before .before .before .before .before .before .before .before .before .loop .inv .7 .same-length, accepted-inside _ _ _ _ _ _ _ (c .before .before .before .before .before .before .before .step .ensures) e)
 
 add-accepted : tie.Need-add-accepted Inv-loop μ-loop
 add-accepted c = omega (arith, c .before .before .before .before .before .before .before .before .before .before .before .before .before .before .before .before .before .before .before .before .before .before .before .before .pre .few, c .before .before .before .before .before .before .before .before .before .before .before .before .before .before .before .before .loop .inv .1, noted-few _ _ _ _ _ (c .before .before .note .ensures))
@@ -62,7 +63,7 @@ loop-again c =
     let a = c .before .before .before .before .before .before .before .before .before .before .before .before .before .before .before .before .before .before .before .before .before .before .before .before .args in
     let l = c .before .before .before .before .before .before .before .before .before .before .before .before .before .before .before .before .loop in
     let s = c .before .before .before .before .before .before .before .before .before .before .step in
-    (omega arith, omega (arith, l .inv .1, noted-few _ _ _ _ _ (c .before .before .note .ensures)), omega (arith, l .inv .2), omega (arith, l .inv .3), omega (arith, l .inv .4), simp length-set (l .inv .5), simp length-set (l .inv .6), ran-turn _ _ _ _ _ _ _ _ _ _ (l .i) _ _ _ _ _ _ _ (l .inv .7) _ (c .before .before .before .before .before .before .before .before .before .before .before .before .before .before .action-at .ensures) _ _ _ _ (s .ensures) _ _ (c .before .before .note .ensures) (omega (arith, c .before .before .before .before .before .before .before .before .before .before .before .before .before .before .before .before .before .before .before .before .before .before .before .before .pre .room-numbers)) (omega (arith, c .before .before .before .before .before .before .before .before .before .before .before .before .before .before .before .before .before .before .before .before .before .before .before .before .pre .room-values)))
+    (omega arith, omega (arith, l .inv .1, noted-few _ _ _ _ _ (c .before .before .note .ensures)), omega (arith, l .inv .2), omega (arith, l .inv .3), omega (arith, l .inv .4), simp length-set (l .inv .5), simp length-set (l .inv .6), ran-turn _ _ _ _ _ _ _ _ (l .i) _ _ _ _ _ (l .inv .7) _ (c .before .before .before .before .before .before .before .before .before .before .before .before .before .before .action-at .ensures) _ _ (s .ensures) _ _ (c .before .before .note .ensures) (omega (arith, c .before .before .before .before .before .before .before .before .before .before .before .before .before .before .before .before .before .before .before .before .before .before .before .before .pre .room-numbers)) (omega (arith, c .before .before .before .before .before .before .before .before .before .before .before .before .before .before .before .before .before .before .before .before .before .before .before .before .pre .room-values)))
 
 same-length : tie.Need-same-length Inv-loop μ-loop
 same-length c = c .before .loop .inv .2

@@ -41,12 +41,12 @@ tail-requires c κs = search needs
 perform-all-requires : tie.Need-perform-all-requires
 perform-all-requires c κs = let first = c .before .before .before .before .before .before .before .before .before .before .before .before .before .before .before .before .before .before .before .before .before .before .before .before in
     let n = sizes first .1 in
-    prepared _ _ _ _ _ _ (ready first) _ _ _ n (c .before .before .before .before .before .before .tail .ensures ∙ rw n) (c .before .before .before .before .before .before .before .before .before .before .before .before .before .before .before .before .before .before .before .before .before .before .read-values .kept .1 .1 .0 ∙ first .before .before .before .before .before .before .before .before .pre .1 ∙ sym n)
+    prepared _ _ _ _ (ready first) _ _ _ n (c .before .before .before .before .before .before .tail .ensures ∙ rw n) (c .before .before .before .before .before .before .before .before .before .before .before .before .before .before .before .before .before .before .before .before .before .before .read-values .kept .1 .1 .0 ∙ first .before .before .before .before .before .before .before .before .pre .1 ∙ sym n)
 
 count-requires : tie.Need-count-requires
 count-requires c κs = let first = c .before .before .before .before .before .before .before .before .before .before .before .before .before .before .before .before .before .before .before .before .before .before .before .before .before .before .before .before .before .before .before .before .before .before .before .before .before .before .before .before in
     let s = sizes first in
-    countable _ _ _ _ _ _ (ready first) _ _ (s .0) (s .1) _ (c .before .before .before .before .before .before .before .before .before .before .before .before .before .before .before .before .before .before .before .before .before .before .before .before .before .before .before .before .before .before .before .before .before .before .before .before .before .before .read-values .ensures ∙ rw (first .before .before .before .before .before .before .before .before .pre .1)) _ _ _ _ (c .before .before .before .before .before .before .before .before .before .before .before .before .before .before .before .before .before .before .before .before .before .before .before .before .before .before .before .before .before .before .before .fresh .ensures) _ (c .before .before .before .before .before .before .before .before .before .before .before .before .before .before .before .before .before .before .before .before .before .before .tail .ensures ∙ rw (s .1)) _ _ _ _ _ _ _ (c .before .before .before .before .before .before .before .before .before .before .before .before .before .before .before .perform-all .ensures)
+    countable _ _ _ _ (ready first) _ _ (s .0) (s .1) _ (c .before .before .before .before .before .before .before .before .before .before .before .before .before .before .before .before .before .before .before .before .before .before .before .before .before .before .before .before .before .before .before .before .before .before .before .before .before .before .read-values .ensures ∙ rw (first .before .before .before .before .before .before .before .before .pre .1)) _ _ (c .before .before .before .before .before .before .before .before .before .before .before .before .before .before .before .before .before .before .before .before .before .before .before .before .before .before .before .before .before .before .before .fresh .ensures) _ (c .before .before .before .before .before .before .before .before .before .before .before .before .before .before .before .before .before .before .before .before .before .before .tail .ensures ∙ rw (s .1)) _ _ _ _ _ (c .before .before .before .before .before .before .before .before .before .before .before .before .before .before .before .perform-all .ensures)
 
 same-length : tie.Need-same-length
 same-length c = search needs
@@ -69,7 +69,7 @@ same-length-6 c = c .before .before .before .before .before .before .before .bef
 returns : tie.Need-returns
 returns c = let first = c .before .before .before .before .before .before .before .before .before .before .before .before .before .before .before .before .before .before .before .before .before .before .before .before .before .before .before .before .before .before .before .before .before .before .before .before .before .before .before .before .before in
     let s = sizes first in
-    finished _ _ _ _ _ _ (ready first) _ _ (s .0) (s .1) _ (c .before .before .before .before .before .before .before .before .before .before .before .before .before .before .before .before .before .before .before .before .before .before .before .before .before .before .before .before .before .before .before .before .before .before .before .before .before .before .before .read-values .ensures ∙ rw (first .before .before .before .before .before .before .before .before .pre .1)) _ _ _ _ (c .before .before .before .before .before .before .before .before .before .before .before .before .before .before .before .before .before .before .before .before .before .before .before .before .before .before .before .before .before .before .before .before .fresh .ensures) _ (c .before .before .before .before .before .before .before .before .before .before .before .before .before .before .before .before .before .before .before .before .before .before .before .tail .ensures ∙ rw (s .1)) _ _ _ _ _ _ _ (c .before .before .before .before .before .before .before .before .before .before .before .before .before .before .before .before .perform-all .ensures) _ (c .count .ensures)
+    finished _ _ _ _ (ready first) _ _ (s .0) (s .1) _ (c .before .before .before .before .before .before .before .before .before .before .before .before .before .before .before .before .before .before .before .before .before .before .before .before .before .before .before .before .before .before .before .before .before .before .before .before .before .before .before .read-values .ensures ∙ rw (first .before .before .before .before .before .before .before .before .pre .1)) _ _ (c .before .before .before .before .before .before .before .before .before .before .before .before .before .before .before .before .before .before .before .before .before .before .before .before .before .before .before .before .before .before .before .before .fresh .ensures) _ (c .before .before .before .before .before .before .before .before .before .before .before .before .before .before .before .before .before .before .before .before .before .before .before .tail .ensures ∙ rw (s .1)) _ _ _ _ _ (c .before .before .before .before .before .before .before .before .before .before .before .before .before .before .before .before .perform-all .ensures) _ (c .count .ensures)
 
 pub perform-with-spec : {M : Type 1} → statement M
 perform-with-spec =

@@ -52,7 +52,7 @@ loop-again : tie.Need-loop-again Inv-loop μ-loop
 loop-again c = (omega arith, omega (arith, c .before .before .before .before .loop .inv .1, c .at-cell .ensures .1, c .before .before .before .before .before .before .before .before .pre .few-boards), rw (c .before .before .before .before .loop .inv .2, c .at-cell .ensures .0) (sym (sum-more _ _)))
 
 returns : tie.Need-returns Inv-loop μ-loop
-returns c = λ m s. let e : c .before .loop .cell ≡ c .before .before .before .before .before .args .cells = omega arith in (rw e at (c .before .loop .inv .2)) ∙ by-slices _ _ _ _ _ _ s
+returns c = λ t k w s. let e : c .before .loop .cell ≡ c .before .before .before .before .before .args .cells = omega arith in (rw e at (c .before .loop .inv .2)) ∙ (rw (sym k, sym w) (by-slices _ _ t _ s))
 
 pub count-spec : {M : Type 1} → statement M
 count-spec =

@@ -1,4 +1,5 @@
 -- `perform` stores the effect of an accepted action, arm by arm. Assumes nothing.
+use mathlib.Core.Path.{_≡_}
 use native.Mathlib.Omega.{arith}
 use Rattle.table.proofs.CodeLaws.{past}
 use Rattle.table.proofs.PerformLaws.{does-read, does-write, does-barrier, does-mtoc, does-ctom, does-ctoc, does-drop, does-acquire, does-release}
@@ -112,7 +113,7 @@ unmark-requires-3 : tie.Need-unmark-requires-3
 unmark-requires-3 c κs = search needs
 
 returns : tie.Need-returns
-returns c = rw (c .before .match .keys1) (does-read _ _ _ _ _ _ _ _ _ (c .before .before .before .before .before .pre .0))
+returns c = rw (c .before .match .keys1) (does-read _ _ _ _ _ _ _ (c .before .before .before .before .before .pre .0))
 
 same-length : tie.Need-same-length
 same-length c = search needs
@@ -121,10 +122,10 @@ same-length-2 : tie.Need-same-length-2
 same-length-2 c = search needs
 
 returns-2 : tie.Need-returns-2
-returns-2 c = rw (c .before .before .before .before .before .before .before .before .match .keys2) (does-write _ _ _ _ _ _ _ _ _ (c .before .before .before .before .before .before .before .before .before .before .before .before .pre .0) _ _ (c .before .before .before .before .before .before .mark .ensures) (c .before .before .mark2 .ensures))
+returns-2 c = rw (c .before .before .before .before .before .before .before .before .match .keys2) (does-write _ _ _ _ _ _ _ (c .before .before .before .before .before .before .before .before .before .before .before .before .pre .0) _ _ (c .before .before .before .before .before .before .mark .ensures) (c .before .before .mark2 .ensures))
 
 returns-3 : tie.Need-returns-3
-returns-3 c = rw (c .match .keys3) (does-barrier _ _ _ _ _ _ _ _ _ (c .before .before .before .before .pre .0))
+returns-3 c = rw (c .match .keys3) (does-barrier _ _ _ _ _ _ _ (c .before .before .before .before .pre .0))
 
 same-length-3 : tie.Need-same-length-3
 same-length-3 c = search needs
@@ -133,7 +134,7 @@ same-length-4 : tie.Need-same-length-4
 same-length-4 c = search needs
 
 returns-4 : tie.Need-returns-4
-returns-4 c = rw (c .before .before .before .before .before .match .keys4) (does-mtoc _ _ _ _ _ _ _ _ _ (c .before .before .before .before .before .before .before .before .before .pre .0) _ (c .before .before .mark3 .ensures))
+returns-4 c = rw (c .before .before .before .before .before .match .keys4) (does-mtoc _ _ _ _ _ _ _ (c .before .before .before .before .before .before .before .before .before .pre .0) _ (c .before .before .mark3 .ensures))
 
 same-length-5 : tie.Need-same-length-5
 same-length-5 c = search needs
@@ -142,7 +143,7 @@ same-length-6 : tie.Need-same-length-6
 same-length-6 c = search needs
 
 returns-5 : tie.Need-returns-5
-returns-5 c = rw (c .before .before .before .before .before .match .keys5) (does-ctom _ _ _ _ _ _ _ _ _ (c .before .before .before .before .before .before .before .before .before .pre .0) _ (c .before .before .unmark .ensures))
+returns-5 c = rw (c .before .before .before .before .before .match .keys5) (does-ctom _ _ _ _ _ _ _ (c .before .before .before .before .before .before .before .before .before .pre .0) _ (c .before .before .unmark .ensures))
 
 same-length-7 : tie.Need-same-length-7
 same-length-7 c = search needs
@@ -151,7 +152,7 @@ same-length-8 : tie.Need-same-length-8
 same-length-8 c = search needs
 
 returns-6 : tie.Need-returns-6
-returns-6 c = rw (c .before .before .before .before .before .match .keys6) (does-ctoc _ _ _ _ _ _ _ _ _ (c .before .before .before .before .before .before .before .before .before .pre .0) _ (c .before .before .mark4 .ensures))
+returns-6 c = rw (c .before .before .before .before .before .match .keys6) (does-ctoc _ _ _ _ _ _ _ (c .before .before .before .before .before .before .before .before .before .pre .0) _ (c .before .before .mark4 .ensures))
 
 same-length-9 : tie.Need-same-length-9
 same-length-9 c = search needs
@@ -160,22 +161,23 @@ same-length-10 : tie.Need-same-length-10
 same-length-10 c = search needs
 
 returns-7 : tie.Need-returns-7
-returns-7 c = rw (c .before .before .before .before .match .keys7) (does-drop _ _ _ _ _ _ _ _ _ (c .before .before .before .before .before .before .before .before .pre .0) _ (c .before .before .unmark2 .ensures))
+returns-7 c = rw (c .before .before .before .before .match .keys7) (does-drop _ _ _ _ _ _ _ (c .before .before .before .before .before .before .before .before .pre .0) _ (c .before .before .unmark2 .ensures))
 
 same-length-11 : tie.Need-same-length-11
 same-length-11 c = search needs
 
 returns-8 : tie.Need-returns-8
-returns-8 c = rw (c .before .before .before .before .match .keys8) (does-acquire _ _ _ _ _ _ _ _ _ (c .before .before .before .before .before .before .before .before .pre .0) _ (c .before .before .mark5 .ensures))
+returns-8 c = rw (c .before .before .before .before .match .keys8) (does-acquire _ _ _ _ _ _ _ (c .before .before .before .before .before .before .before .before .pre .0) _ (c .before .before .mark5 .ensures))
 
 same-length-12 : tie.Need-same-length-12
 same-length-12 c = search needs
 
-returns-9 : tie.Need-returns-9
-returns-9 c = rw (c .before .before .before .before .match .keys9) (does-release _ _ _ _ _ _ _ _ _ (c .before .before .before .before .before .before .before .before .pre .0) _ (c .before .before .unmark3 .ensures))
+-- the last arm has code 8
+release : (c : tie.At-match-rest) → c .before .before .before .before .args .code ≡ 8
+release c = omega (arith, past 8 _ (c .match .rest), c .before .before .before .before .pre .1)
 
-returns-10 : tie.Need-returns-10
-returns-10 c = absurd (omega (arith, past _ (c .match .rest), c .before .before .before .before .pre .1))
+returns-9 : tie.Need-returns-9
+returns-9 c = rw (release (c .before .before .before .before)) (does-release _ _ _ _ _ _ _ (c .before .before .before .before .before .before .before .before .pre .0) _ (c .before .before .unmark3 .ensures))
 
 pub perform-spec : {M : Type 1} → statement M
 perform-spec =
@@ -236,5 +238,4 @@ perform-spec =
     same-length-11
     returns-8
     same-length-12
-    returns-9
-    returns-10)
+    returns-9)
