@@ -10,9 +10,9 @@ use lib.ListN.{getD}
 use borrow.Author.Tests.{eq-eqb, ne-eqb, eqb-true}
 use Rattle.protocol.specs.declared.Action.{Action}
 use Rattle.protocol.specs.Slices.{Table}
-use Rattle.protocol.specs.Step.{seen, answerBy, tableAfter}
+use Rattle.protocol.specs.Step.{seen, answerBy, answer, tableAfter}
 use Rattle.protocol.specs.Fresh.{freshTable}
-use Rattle.protocol.specs.Runs.{Line, logBy, log, tableAfterAll, acceptedWrite, writtenAfter, latestWrite, naming}
+use Rattle.protocol.specs.Runs.{Line, logBy, log, tableAfterAll, followed, written, writtenAfter, latestWrite, naming}
 use Rattle.protocol.proofs.StepLaws.{accepted}
 use Rattle.protocol.proofs.Demand3Order.{same-answers, same-end}
 use Rattle.sessions.specs.File.{ruleIn, boardsIn, cellsIn, startingIn}
@@ -27,11 +27,11 @@ cellIn line = line .action .cell
 
 -- the latest accepted write to a cell is that among the lines that name it
 latest-of-cell : (cell v : ℕ) (ls : List Line) → latestWrite cell v ls ≡ latestWrite cell v (naming cellIn cell ls)
-unfolding latestWrite naming
+unfolding latestWrite followed naming
 latest-of-cell cell v [] = refl
 latest-of-cell cell v (l ∷ ls) = go (eqb (cellIn l) cell) refl (latest-of-cell cell (writtenAfter cell v l) ls) (latest-of-cell cell v ls)
   where
-    unwritten : (b : Bool) → cond (b && false) (l .action .value) v ≡ v
+    unwritten : (b : Bool) → cond (b && false) (written v (l .action)) v ≡ v
     unwritten true = refl
     unwritten false = refl
 
@@ -39,7 +39,7 @@ latest-of-cell cell v (l ∷ ls) = go (eqb (cellIn l) cell) refl (latest-of-cell
         latestWrite cell v ls ≡ latestWrite cell v (naming cellIn cell ls) →
         latestWrite cell (writtenAfter cell v l) ls ≡ latestWrite cell v (cond b (l ∷ naming cellIn cell ls) (naming cellIn cell ls))
     go true e i j = i
-    go false e i j = rw (e, unwritten (acceptedWrite l)) j
+    go false e i j = rw (e, unwritten (eqb (l .told .number) 0)) j
 
 sum-both : (n : ℕ) (f g : ℕ → ℕ) → sumBelow n (λ k. f k + g k) ≡ sumBelow n f + sumBelow n g
 unfolding sumBelow
