@@ -18,7 +18,7 @@ pub record Line : Type 0 where
   pub action : Action
   pub told : Answer
 
--- by any arrangement
+-- the run by any arrangement of the table
 module _ (places : Places) where
   unfoldable pub tableAfterAllBy : (rule boards cells : ℕ) → Table → List Action → Table
   tableAfterAllBy rule boards cells t [] = t
@@ -32,7 +32,7 @@ module _ (places : Places) where
   logBy rule boards cells t [] = []
   logBy rule boards cells t (a ∷ rest) = lineBy rule boards cells t a ∷ logBy rule boards cells (tableAfterBy places rule boards cells t a) rest
 
--- by document 01's
+-- and by document 01's
 abbrev pub tableAfterAll : (rule boards cells : ℕ) → Table → List Action → Table
 tableAfterAll rule boards cells = tableAfterAllBy (cellByCell boards) rule boards cells
 

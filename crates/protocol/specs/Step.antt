@@ -45,7 +45,7 @@ refusals rule boards cells s a =
 unfoldable pub answerTo : (rule boards cells : ℕ) → Seen → Action → Answer
 answerTo rule boards cells s a = first (refusals rule boards cells s a) (record { number = 0; value = valueOf (s .cell) (procOf a) })
 
--- by any arrangement
+-- the step by any arrangement of the table
 module _ (places : Places) where
   unfoldable pub seenBy : (boards cells : ℕ) → Table → (cell : ℕ) → Seen
   seenBy boards cells t cell = record { sizes = sizesGood boards cells t; cell = cellBy places boards cells t cell }
@@ -60,7 +60,7 @@ module _ (places : Places) where
       (storesBy places (a .cell) t (effect (ruleOf rule) boards (cellBy places boards cells t (a .cell)) (procOf a)))
       t
 
--- by document 01's
+-- and by document 01's
 abbrev pub seen : (boards cells : ℕ) → Table → (cell : ℕ) → Seen
 seen boards cells = seenBy (cellByCell boards) boards cells
 
