@@ -75,8 +75,7 @@ pub fn perform(
         // Write
         1 => {
             copies[home] = value;
-            mask::mark(masks, live, board);
-            mask::mark(masks, dirty, board);
+            mask::receive(masks, live, board, true);
             0
         }
         // Barrier
@@ -84,7 +83,7 @@ pub fn perform(
         // MtoC
         3 => {
             copies[home] = main[cell];
-            mask::mark(masks, live, board);
+            mask::receive(masks, live, board, false);
             0
         }
         // CtoM
@@ -96,7 +95,7 @@ pub fn perform(
         // CtoC
         5 => {
             copies[there] = copies[home];
-            mask::mark(masks, live, to);
+            mask::receive(masks, live, to, false);
             0
         }
         // Drop
