@@ -28,7 +28,7 @@ BOARDS, START, NEW = 3, 7, 9
 # The page's column "What to do".  The script fails where the page says otherwise.
 ADVICE = {
     1: "record the session with the table's real sizes",
-    2: "choose rule 0 to 4",
+    2: "choose rule 1 to 4; under 0 old values are read",
     3: "mend what made the record: code 0 to 8, unused fields 0",
     4: "leave it out: Barrier is of rule 0, Acquire and Release are of rules 3 and 4",
     5: "compare the record's boards with P",
@@ -38,7 +38,7 @@ ADVICE = {
     10: "leave it out: there is nothing to store",
     11: "let that board store it first: CtoM",
     12: "let every other board that has a copy drop it first: Drop",
-    13: "let the board that has the lock, be it the same one, give it back first: Release. Its own second Acquire is left out",
+    13: "let the board that has the lock, be it the same one, give it back first: Release. A second Acquire by that board is left out",
     14: "Acquire first",
     15: "if a board is dirty: CtoM there and then MtoC, or CtoC from there. If none is: MtoC",
     16: "Drop it first",

@@ -122,9 +122,9 @@ def counts(lines):
     total = Counter()
     for (name, _), k in said.items():
         total[name] += k
-    text.append("%d calls, %d of them steps; %d lines that are not a call; %d bytes.\n"
-          % (bar("calls", sum(total[name] for name in calls.CALLS), 2000), total["step"], total["not a call"],
-             sum(len(x) + 1 for x in lines)))
+    text.append("%d calls, %d of them steps; %d lines that are not a call; %d bytes.\n" % (
+        bar("calls", sum(total[name] for name in calls.CALLS), 2000), total["step"], total["not a call"],
+        sum(len(x) + 1 for x in lines)))
 
     text.append("| Call | answers |\n|---|---|")
     for name, numbers in MUST.items():
@@ -132,24 +132,24 @@ def counts(lines):
         text.append("| %s | %s |" % (name, ", ".join("%s: %d" % x for x in got)))
     text.append("| sizes_in | %d |" % bar("sizes_in", total["sizes_in"], 20))
 
-    text.append("\n| Guard: accepted and refused steps on sound cells | " + " | ".join("rule %d" % r for r in RULES) + " |")
-    text.append("|---" * 6 + "|")
+    by_rule = " | rule 0 | rule 1 | rule 2 | rule 3 | rule 4 |\n|---|---|---|---|---|---|"
+    text.append("\n| Steps on sound cells, by action and answer" + by_rule)
     for code, row in GUARDS.items():
         for number in (0, *row):
             cells = []
             for rule in RULES:
-                asked = model.exists(rule, code) and (number == 0 or rule in row[number])
-                can = any(k[:2] == (rule, code) and first(k[2]) == number for k in SOUND)
-                assert asked or not can, (rule, code, number)
-                cells.append("cannot" if asked and not can else "" if not asked else
-                             str(bar("%s %d under rule %d" % (NAMES[code], number, rule), held["guard", rule, code, number], 5)))
+                stands = model.exists(rule, code) and (number == 0 or rule in row[number])
+                occurs = any(k[:2] == (rule, code) and first(k[2]) == number for k in SOUND)
+                got = held["guard", rule, code, number]
+                assert stands or not (occurs or got), (rule, code, number)
+                if occurs:
+                    bar("%s answering %d under rule %d" % (NAMES[code], number, rule), got, 5)
+                cells.append(str(got) if occurs else "cannot" if stands else "-")
             text.append("| %s: %d | %s |" % (NAMES[code], number, " | ".join(cells)))
     for rule, code, refusals in sorted(SOUND):
         bar("%s under rule %d with refusals %s" % (NAMES[code], rule, refusals), held["set", rule, code, refusals], 5)
 
-    text.append("\n| Damage: steps + checks where this condition fails alone; in brackets where it isn't asked | "
-          + " | ".join("rule %d" % r for r in RULES) + " |")
-    text.append("|---" * 6 + "|")
+    text.append("\n| Steps + checks where this condition fails alone (in brackets: where it is not asked)" + by_rule)
     possible = set(alone_possible())
     for condition in ("bits live", "bits dirty", "bits lock", *list(model.CONDITIONS)[1:]):
         cells = []

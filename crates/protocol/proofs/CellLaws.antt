@@ -4,7 +4,7 @@ use mathlib.Core.Path.{_≡_, refl, sym, ap, _∙_, fun-ext}
 use mathlib.Core.Logic.{_≢_}
 use mathlib.Core.Bool.{Bool, true, false, cond, _&&_}
 use mathlib.Core.List.{List, [], _∷_}
-use Prim.Native.Nat.{ℕ, zero, suc, _*_, _<_, _≤_}
+use Prim.Native.Nat.{ℕ, _*_, _<_, _≤_}
 use native.Mathlib.Omega.{arith}
 use native.Mathlib.Decide.{ℕ-discrete}
 use lib.Dec.{eqb, ltb}
@@ -31,18 +31,15 @@ abbrev pub Fits : (boards : ℕ) → List Store → Type 0
 Fits boards [] = Unit {0}
 Fits boards (put s k v ∷ es) = (k < width boards s) × Fits boards es
 
-sliceAt : ℕ → Slice
-sliceAt zero = main
-sliceAt (suc zero) = copies
-sliceAt (suc (suc n)) = masks
+-- each slice stands in the list of slices at its number
+listed : (s : Slice) → (sliceNumber s < length slices) × (getD slices (sliceNumber s) main ≡ s)
+unfolding sliceNumber
+listed main = (omega arith, refl)
+listed copies = (omega arith, refl)
+listed masks = (omega arith, refl)
 
 same-slice : (s u : Slice) → sliceNumber s ≡ sliceNumber u → s ≡ u
-same-slice s u e = sym (back s) ∙ ap sliceAt e ∙ back u
-  where
-    back : (s : Slice) → sliceAt (sliceNumber s) ≡ s
-    back main = unfold sliceAt sliceNumber in refl
-    back copies = unfold sliceAt sliceNumber in refl
-    back masks = unfold sliceAt sliceNumber in refl
+same-slice s u e = sym (listed s .1) ∙ ap (λ (n : ℕ). getD slices n main) e ∙ listed u .1
 
 -- ---- lengths
 
@@ -64,22 +61,14 @@ length-stores places c t (e ∷ es) u = length-stores places c (storeBy places c
 
 pub sizes-of : (boards cells : ℕ) (t : Table) → sizesGood boards cells t ≡ true → Sized boards cells t
 unfolding sizesGood
-sizes-of boards cells t e s = eqb-true _ _ (at s)
+sizes-of boards cells t e s = eqb-true _ _ (rw (listed s .1) at (every-at slices test (sliceNumber s) main (listed s .0) (and-right (inRange boards cells) (every slices test) e)))
   where
     test : Slice → Bool
     test s = eqb (length (t s)) (cells * width boards s)
 
-    all : every slices test ≡ true
-    all = and-right (inRange boards cells) (every slices test) e
-
-    at : (s : Slice) → eqb (length (t s)) (cells * width boards s) ≡ true
-    at main = every-at slices test 0 main (omega arith) all
-    at copies = every-at slices test 1 main (omega arith) all
-    at masks = every-at slices test 2 main (omega arith) all
-
 pub same-sizes : (boards cells : ℕ) (t u : Table) → ((s : Slice) → length (u s) ≡ length (t s)) → sizesGood boards cells u ≡ sizesGood boards cells t
-unfolding sizesGood every
-same-sizes boards cells t u f = rw (f main, f copies, f masks)
+unfolding sizesGood
+same-sizes boards cells t u f = ap (λ (n : Slice → ℕ). inRange boards cells && every slices (λ s. eqb (n s) (cells * width boards s))) (fun-ext f)
 
 -- ---- one store
 
@@ -153,14 +142,17 @@ module _ (places : Places) (boards cells : ℕ) (ok : Proper places boards cells
 
 -- ---- a table is what its cells are
 
-pub same-table : (places : Places) (boards cells : ℕ) → Proper places boards cells → (t u : Table) → Sized boards cells t → Sized boards cells u →
-    ((c : ℕ) → cellBy places boards cells t c ≡ cellBy places boards cells u c) → t ≡ u
-unfolding cellBy
-same-table places boards cells ok t u y z e =
-    fun-ext (λ s. ext-getD 0 (t s) (u s) (y s ∙ sym (z s)) (λ i h. let f = ok .onto s i (omega (arith, y s, h)) in at s i (f .0) (f .1) (f .2) (f .3) (f .4)))
-  where
-    at : (s : Slice) (i c k : ℕ) → c < cells → k < width boards s → i ≡ places s c k → getD (t s) i 0 ≡ getD (u s) i 0
-    at s i c k l h q = rw q (rw (lt-ltb k (width boards s) h, lt-ltb c cells l) at (ap (λ (x : Cell). x s k) (e c)))
+module _ (places : Places) (boards cells : ℕ) (ok : Proper places boards cells) (t u : Table) (y : Sized boards cells t) (z : Sized boards cells u) where
+  -- slice by slice
+  pub same-list : (s : Slice) → ((c k : ℕ) → cellBy places boards cells t c s k ≡ cellBy places boards cells u c s k) → t s ≡ u s
+  unfolding cellBy
+  same-list s e = ext-getD 0 (t s) (u s) (y s ∙ sym (z s)) (λ i h. let f = ok .onto s i (omega (arith, y s, h)) in at i (f .0) (f .1) (f .2) (f .3) (f .4))
+    where
+      at : (i c k : ℕ) → c < cells → k < width boards s → i ≡ places s c k → getD (t s) i 0 ≡ getD (u s) i 0
+      at i c k l h q = rw q (rw (lt-ltb k (width boards s) h, lt-ltb c cells l) at (e c k))
+
+  pub same-table : ((c : ℕ) → cellBy places boards cells t c ≡ cellBy places boards cells u c) → t ≡ u
+  same-table e = fun-ext (λ s. same-list s (λ c k. ap (λ (x : Cell). x s k) (e c)))
 
 -- a cell has nothing at board P or above
 pub nothing-above : (places : Places) (boards cells : ℕ) (t : Table) (c : ℕ) (s : Slice) (k : ℕ) → width boards s ≤ k → cellBy places boards cells t c s k ≡ 0

@@ -2,37 +2,36 @@
 -- the latest accepted write to its cell, or the starting value; the log is a run of the handout's CoherentMemory. Assumes nothing.
 use mathlib.Core.Path.{_≡_, refl, sym, ap, _∙_}
 use mathlib.Core.Logic.{inl}
-use mathlib.Core.Bool.{Bool, true, false, cond, _&&_, and-true, and-false}
+use mathlib.Core.Bool.{Bool, true, false, cond, _&&_}
 use mathlib.Core.List.{List, [], _∷_, _++_, map}
 use Prim.Native.Nat.{ℕ, _≤_}
 use native.Mathlib.Omega.{arith}
-use native.Mathlib.Decide.{ℕ-discrete}
 use lib.Dec.{eqb}
 use lib.ListN.{length, getD}
-use borrow.Author.Tests.{eqb-true, eq-eqb, ne-eqb}
+use borrow.Author.Tests.{eqb-true}
 use Rattle.protocol.specs.declared.Action.{Action}
 use Rattle.protocol.specs.Names.{ruleOf, procOf}
 use Rattle.protocol.specs.Slices.{Table}
 use Rattle.protocol.specs.Cell.{cellOf}
 use Rattle.protocol.specs.Step.{seen, answer, tableAfter}
 use Rattle.protocol.specs.Fresh.{freshTable}
-use Rattle.protocol.specs.Runs.{CoherentRule, Line, lineOf, log, writtenAfter, tableAfterAll, isRead, isWrite, acceptedRead, acceptedWrite, latestWrite}
+use Rattle.protocol.specs.Runs.{CoherentRule, Line, lineOf, log, tableAfterAll, isRead, isWrite, acceptedRead, acceptedWrite, followed, written, writtenAfter, latestWrite}
 use Rattle.protocol.specs.Handout.{State, IsCurrent, Current}
 use Rattle.protocol.specs.CoherentMemory.{Memory, returned, wrote, SKIP, Allowed, after, Run}
 use Rattle.protocol.specs.AsHandout.{asState, asEvent}
-use Rattle.protocol.proofs.Booleans.{clash, and-left, and-right}
+use Rattle.protocol.proofs.Booleans.{clash, and-left, and-right, same-choice}
 use Rattle.protocol.proofs.MaskLaws.{has-none}
 use Rattle.protocol.proofs.HandoutLaws.{one-current}
 use Rattle.protocol.proofs.Ladder.{Coherent, down-to-global, inv3-of}
 use Rattle.protocol.proofs.CurrentKept.{current-kept}
 use Rattle.protocol.proofs.SoundExactly.{sound-exactly}
 use Rattle.protocol.proofs.NumberLaws.{by-rule, proc-read, proc-writes}
-use Rattle.protocol.proofs.StepLaws.{accepted, step-there}
+use Rattle.protocol.proofs.StepLaws.{accepted}
 use Rattle.protocol.proofs.FreshLaws.{fresh-main, fresh-masks}
 use Rattle.protocol.proofs.Demand2.{value-is, state-is}
-use Rattle.protocol.proofs.Demand1.{refused-changes-nothing}
+use Rattle.protocol.proofs.RunLaws.{line-tells, run-tells}
 
-coherent-rule : (rule : ℕ) → CoherentRule rule → Coherent (ruleOf rule)
+pub coherent-rule : (rule : ℕ) → CoherentRule rule → Coherent (ruleOf rule)
 unfolding ruleOf
 coherent-rule rule (l, h) = by-rule (λ (r : ℕ). 1 ≤ r → Coherent (ruleOf r)) (λ l. omega arith) (λ l. tt) (λ l. tt) (λ l. tt) (λ l. tt) rule h l
 
@@ -53,24 +52,6 @@ module _ (rule boards cells : ℕ) (co : CoherentRule rule) (t : Table) (a : Act
       rw (state-is rule boards cells t a e, ← proc-writes a (k .codeFits) v)
       (current-kept boards before v (ruleOf rule) (inv3-of boards before (ruleOf rule) co′ I) (procOf a) (k .among) (down-to-global boards before (ruleOf rule) co′ I (procOf a) (k .among) (k .guarded)) c)
 
-  current-here : (v : ℕ) → IsCurrent boards before v →
-      IsCurrent boards (asState (cellOf boards cells (tableAfter rule boards cells t a) (a .cell))) (writtenAfter (a .cell) v (lineOf rule boards cells t a))
-  unfolding acceptedWrite
-  current-here v c = go (ℕ-discrete (answer rule boards cells t a .number) 0)
-    where
-      go : Dec (answer rule boards cells t a .number ≡ 0) →
-          IsCurrent boards (asState (cellOf boards cells (tableAfter rule boards cells t a) (a .cell))) (writtenAfter (a .cell) v (lineOf rule boards cells t a))
-      go (yes e) = rw (eq-eqb (answer rule boards cells t a .number) 0 e, eq-eqb (a .cell) (a .cell) refl, and-true (isWrite (a .code))) (current-accepted v e c)
-      go (no n) = rw (refused-changes-nothing rule boards cells t a n .0, ne-eqb (answer rule boards cells t a .number) 0 n) c
-
-  current-step : (m : Memory) → ((k : ℕ) → IsCurrent boards (asState (cellOf boards cells t k)) (m k)) → (k : ℕ) →
-      IsCurrent boards (asState (cellOf boards cells (tableAfter rule boards cells t a) k)) (writtenAfter k (m k) (lineOf rule boards cells t a))
-  current-step m f k = go (ℕ-discrete k (a .cell))
-    where
-      go : Dec (k ≡ a .cell) → IsCurrent boards (asState (cellOf boards cells (tableAfter rule boards cells t a) k)) (writtenAfter k (m k) (lineOf rule boards cells t a))
-      go (yes q) = rw q (current-here (m (a .cell)) (f (a .cell)))
-      go (no n) = rw (step-there rule boards cells t a k n, ne-eqb (a .cell) k (λ e. n (sym e)), and-false (acceptedWrite (lineOf rule boards cells t a))) (f k)
-
   -- an accepted Read answers the current value
   reads-current : (v : ℕ) → a .code ≡ 0 → answer rule boards cells t a .number ≡ 0 → IsCurrent boards before v → answer rule boards cells t a .value ≡ v
   unfolding answer seen
@@ -84,38 +65,43 @@ module _ (rule boards cells : ℕ) (co : CoherentRule rule) (t : Table) (a : Act
 -- ---- lines as events
 
 -- a Read is no Write
-read-only : (l : Line) → acceptedRead l ≡ true → acceptedWrite l ≡ false
-unfolding acceptedRead acceptedWrite isRead isWrite
-read-only l e = rw (eqb-true (l .action .code) 0 (and-right (eqb (l .told .number) 0) (eqb (l .action .code) 0) e), and-false (eqb (l .told .number) 0))
+read-only : (code : ℕ) → isRead code ≡ true → isWrite code ≡ false
+unfolding isRead isWrite
+read-only code e = rw (eqb-true code 0 e)
 
 after-event : (m : Memory) (l : Line) (k : ℕ) → after m (asEvent l) k ≡ writtenAfter k (m k) l
-unfolding asEvent
-after-event m l k = go (acceptedRead l) refl (acceptedWrite l) refl
+unfolding asEvent acceptedRead acceptedWrite
+after-event m l k = go (eqb (l .told .number) 0) (isRead (l .action .code)) refl (isWrite (l .action .code)) refl
   where
-    go : (r : Bool) → acceptedRead l ≡ r → (w : Bool) → acceptedWrite l ≡ w →
-        after m (cond r (returned (l .action .cell) (l .told .value)) (cond w (wrote (l .action .cell) (l .action .value)) SKIP)) k
-        ≡ cond (w && eqb (l .action .cell) k) (l .action .value) (m k)
-    go true e true d = absurd (clash d (read-only l e))
-    go true e false d = refl
-    go false e true d = refl
-    go false e false d = refl
+    go : (n r : Bool) → isRead (l .action .code) ≡ r → (w : Bool) → isWrite (l .action .code) ≡ w →
+        after m (cond (n && r) (returned (l .action .cell) (l .told .value)) (cond (n && w) (wrote (l .action .cell) (l .action .value)) SKIP)) k
+        ≡ cond (n && eqb (l .action .cell) k) (cond w (l .action .value) (m k)) (m k)
+    go false r e w d = refl
+    go true true e true d = absurd (clash d (read-only (l .action .code) e))
+    go true true e false d = same-choice (eqb (l .action .cell) k) (m k)
+    go true false e true d = refl
+    go true false e false d = same-choice (eqb (l .action .cell) k) (m k)
 
 -- in a run of CoherentMemory, a Read returns the latest write before it
-read-in-run : (m : Memory) (before rest : List Line) (l : Line) → Run m (map asEvent (before ++ (l ∷ rest))) → acceptedRead l ≡ true →
+pub read-in-run : (m : Memory) (before rest : List Line) (l : Line) → Run m (map asEvent (before ++ (l ∷ rest))) → acceptedRead l ≡ true →
     l .told .value ≡ latestWrite (l .action .cell) (m (l .action .cell)) before
-unfolding latestWrite asEvent
+unfolding latestWrite followed asEvent
 read-in-run m [] rest l r e = rw e at (r .0)
 read-in-run m (b ∷ before) rest l r e = read-in-run (after m (asEvent b)) before rest l (r .1) e ∙ ap (λ (v : ℕ). latestWrite (l .action .cell) v before) (after-event m b (l .action .cell))
 
--- ---- a run
+-- ---- from any table with known current values
 
 module _ (rule boards cells : ℕ) (co : CoherentRule rule) where
-  current-run : (t : Table) (actions : List Action) (m : Memory) → ((k : ℕ) → IsCurrent boards (asState (cellOf boards cells t k)) (m k)) → (k : ℕ) →
-      IsCurrent boards (asState (cellOf boards cells (tableAfterAll rule boards cells t actions) k)) (latestWrite k (m k) (log rule boards cells t actions))
-  unfolding tableAfterAll log latestWrite
-  current-run t [] m f k = f k
-  current-run t (a ∷ rest) m f k =
-      current-run (tableAfter rule boards cells t a) rest (λ j. writtenAfter j (m j) (lineOf rule boards cells t a)) (current-step rule boards cells co t a m f) k
+  pub current-step : (t : Table) (a : Action) (m : Memory) → ((k : ℕ) → IsCurrent boards (asState (cellOf boards cells t k)) (m k)) → (k : ℕ) →
+      IsCurrent boards (asState (cellOf boards cells (tableAfter rule boards cells t a) k)) (after m (asEvent (lineOf rule boards cells t a)) k)
+  current-step t a m f k =
+      rw (after-event m (lineOf rule boards cells t a) k)
+      (line-tells rule boards cells k (λ v x. IsCurrent boards (asState x) v) written (λ v t a e. current-accepted rule boards cells co t a v e) (m k) t a (f k))
+
+  pub current-run : (t : Table) (actions : List Action) (k v : ℕ) → IsCurrent boards (asState (cellOf boards cells t k)) v →
+      IsCurrent boards (asState (cellOf boards cells (tableAfterAll rule boards cells t actions) k)) (latestWrite k v (log rule boards cells t actions))
+  unfolding latestWrite
+  current-run t actions k v = run-tells rule boards cells k (λ v x. IsCurrent boards (asState x) v) written (λ v t a e. current-accepted rule boards cells co t a v e) v t actions
 
   allowed-line : (t : Table) (a : Action) (m : Memory) → ((k : ℕ) → IsCurrent boards (asState (cellOf boards cells t k)) (m k)) → Allowed m (asEvent (lineOf rule boards cells t a))
   unfolding asEvent
@@ -130,14 +116,13 @@ module _ (rule boards cells : ℕ) (co : CoherentRule rule) where
       go false e true = tt
       go false e false = tt
 
-  coherent-run : (t : Table) (actions : List Action) (m : Memory) → ((k : ℕ) → IsCurrent boards (asState (cellOf boards cells t k)) (m k)) →
+  pub coherent-run : (t : Table) (actions : List Action) (m : Memory) → ((k : ℕ) → IsCurrent boards (asState (cellOf boards cells t k)) (m k)) →
       Run m (map asEvent (log rule boards cells t actions))
   unfolding log
   coherent-run t [] m f = tt
   coherent-run t (a ∷ rest) m f = (
     allowed-line t a m f,
-    coherent-run (tableAfter rule boards cells t a) rest (after m (asEvent (lineOf rule boards cells t a)))
-        (λ k. rw (after-event m (lineOf rule boards cells t a) k) (current-step rule boards cells co t a m f k)),
+    coherent-run (tableAfter rule boards cells t a) rest (after m (asEvent (lineOf rule boards cells t a))) (current-step t a m f),
   )
 
 fresh-current : (boards : ℕ) (starting : List ℕ) (k : ℕ) → IsCurrent boards (asState (cellOf boards (length starting) (freshTable boards starting) k)) (getD starting k 0)
@@ -159,4 +144,4 @@ module _ (rule boards : ℕ) (starting : List ℕ) (co : CoherentRule rule) (act
   -- the current value of each cell at the end is the latest accepted write
   pub latest-is-current : (k : ℕ) → IsCurrent boards (asState (cellOf boards (length starting) (tableAfterAll rule boards (length starting) (freshTable boards starting) actions) k))
       (latestWrite k (getD starting k 0) (log rule boards (length starting) (freshTable boards starting) actions))
-  latest-is-current k = current-run rule boards (length starting) co (freshTable boards starting) actions (λ (j : ℕ). getD starting j 0) (fresh-current boards starting) k
+  latest-is-current k = current-run rule boards (length starting) co (freshTable boards starting) actions k (getD starting k 0) (fresh-current boards starting k)

@@ -17,6 +17,7 @@ pub mod FirstLaws
 pub mod NumberLaws
 pub mod StepLaws
 pub mod Demand1
+pub mod RunLaws
 pub mod RefusalOrder
 pub mod GuardRows
 pub mod InWords

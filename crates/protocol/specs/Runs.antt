@@ -1,16 +1,17 @@
--- A run of a list of actions: the table at its end, its log, and the latest accepted write that a log tells of. Assumes nothing.
+-- A run of a list of actions: the table at its end, its log, and what a log tells of a cell, the latest accepted write above all. Assumes nothing.
 use mathlib.Core.Bool.{Bool, cond, _&&_}
 use mathlib.Core.List.{List, [], _∷_}
 use Prim.Native.Nat.{ℕ, _≤_}
 use lib.Dec.{eqb}
 use Rattle.protocol.specs.declared.Action.{Action}
 use Rattle.protocol.specs.declared.Answer.{Answer}
+use Rattle.protocol.specs.Names.{lastRule}
 use Rattle.protocol.specs.Slices.{Table}
 use Rattle.protocol.specs.Step.{answer, tableAfter}
 
 -- "Rules 1 to 4 are the coherent ones"
 abbrev pub CoherentRule : (rule : ℕ) → Type 0
-CoherentRule rule = (1 ≤ rule) × (rule ≤ 4)
+CoherentRule rule = (1 ≤ rule) × (rule ≤ lastRule)
 
 unfoldable pub tableAfterAll : (rule boards cells : ℕ) → Table → List Action → Table
 tableAfterAll rule boards cells t [] = t
@@ -41,14 +42,26 @@ acceptedRead l = eqb (l .told .number) 0 && isRead (l .action .code)
 unfoldable pub acceptedWrite : Line → Bool
 acceptedWrite l = eqb (l .told .number) 0 && isWrite (l .action .code)
 
+-- an accepted action at the cell is followed; any other line leaves s as it was
+abbrev pub followedBy {ℓ} : {S : Type ℓ} → (cell : ℕ) → (follow : S → Action → S) → (s : S) → Line → S
+followedBy cell follow s l = cond (eqb (l .told .number) 0 && eqb (l .action .cell) cell) (follow s (l .action)) s
+
+-- what a log tells of a cell: from s on, line by line. It looks at actions and answers alone.
+unfoldable pub followed {ℓ} : {S : Type ℓ} → (cell : ℕ) → (follow : S → Action → S) → (s : S) → List Line → S
+followed cell follow s [] = s
+followed cell follow s (l ∷ ls) = followed cell follow (followedBy cell follow s l) ls
+
+-- a write's value, where v was written before
+abbrev pub written : (v : ℕ) → Action → ℕ
+written v a = cond (isWrite (a .code)) (a .value) v
+
 -- what a cell was last written, after one more line; v before
 abbrev pub writtenAfter : (cell v : ℕ) → Line → ℕ
-writtenAfter cell v l = cond (acceptedWrite l && eqb (l .action .cell) cell) (l .action .value) v
+writtenAfter cell v l = followedBy cell written v l
 
--- the latest accepted write to a cell by any board; the starting value where there is none. It looks at actions and answers alone.
+-- the latest accepted write to a cell by any board; the starting value where there is none
 unfoldable pub latestWrite : (cell starting : ℕ) → List Line → ℕ
-latestWrite cell starting [] = starting
-latestWrite cell starting (l ∷ ls) = latestWrite cell (writtenAfter cell starting l) ls
+latestWrite cell starting = followed cell written starting
 
 -- the members of a list that name a cell, in their order
 unfoldable pub naming {ℓ} : {A : Type ℓ} → (cellNumber : A → ℕ) → (cell : ℕ) → List A → List A

@@ -16,4 +16,5 @@ pub mod FileRefused
 pub mod FileOrder
 pub mod LogLaws
 pub mod RunPromises
+pub mod RunOrder
 pub mod SmallRun

@@ -15,7 +15,8 @@ use Rattle.protocol.specs.declared.Action.{Action}
 use Rattle.protocol.specs.declared.Answer.{Answer}
 use Rattle.protocol.specs.Slices.{Table}
 use Rattle.protocol.specs.Step.{seen, answer}
-use Rattle.protocol.specs.Runs.{Line, lineOf, log, tableAfterAll, isWrite, acceptedWrite, writtenAfter, latestWrite}
+use Rattle.protocol.specs.Runs.{Line, lineOf, log, tableAfterAll, isWrite, followed, writtenAfter, latestWrite}
+use Rattle.protocol.proofs.Booleans.{same-choice}
 use Rattle.protocol.proofs.StepLaws.{accepted}
 use Rattle.table.specs.Statements.{Steps}
 use Rattle.table.proofs.Promises.{held}
@@ -29,15 +30,14 @@ use Rattle.sessions.proofs.RunLaws.{length-actions, actions-more, table
 
 module _ (a : Action) (number : ℕ) (latest : List ℕ) where
   pub noted-refused : number ≢ 0 → Noted a number latest 0 latest
-  unfolding acceptedWrite
   noted-refused h = record { counts = rw (ne-eqb number 0 h); keeps-length = refl; notes = λ c v. rw (ne-eqb number 0 h) }
 
   pub noted-other : number ≡ 0 → a .code ≢ 1 → Noted a number latest 1 latest
-  unfolding acceptedWrite isWrite
-  noted-other e h = record { counts = rw e; keeps-length = refl; notes = λ c v. rw (ne-eqb (a .code) 1 h, e) }
+  unfolding isWrite
+  noted-other e h = record { counts = rw e; keeps-length = refl; notes = λ c v. rw (ne-eqb (a .code) 1 h, e) (same-choice (eqb (a .cell) c) (getD latest c 0)) }
 
   pub noted-write : number ≡ 0 → a .code ≡ 1 → a .cell < length latest → Noted a number latest 1 (set latest (a .cell) (a .value))
-  unfolding acceptedWrite isWrite
+  unfolding isWrite
   noted-write e d h = record { counts = rw e; keeps-length = length-set latest (a .cell) (a .value); notes = λ c v. rw (e, d) (go c) }
     where
       go : (c : ℕ) → getD (set latest (a .cell) (a .value)) c 0 ≡ cond (eqb (a .cell) c) (a .value) (getD latest c 0)
@@ -52,7 +52,6 @@ noted-few a number latest r latest′ n = rw (n .counts) (one-at-most (eqb numbe
 -- what a cell was last written looks at the number of an answer alone
 written-told : (c v : ℕ) (a : Action) (n x : ℕ) (told : Answer) → n ≡ told .number →
     writtenAfter c v (record { action = a; told = record { number = n; value = x } }) ≡ writtenAfter c v (record { action = a; told = told })
-unfolding acceptedWrite
 written-told c v a n x told e = rw e
 
 module _ (rule boards cells : ℕ) where
@@ -62,7 +61,7 @@ module _ (rule boards cells : ℕ) where
   accepted-inside t a told t′ s e = accepted rule boards cells (seen boards cells t (a .cell)) a (sym (s .number) ∙ e) .inside
 
   pub ran-none : (t : Table) (numbers values latest : List ℕ) → Ran rule boards cells t numbers values latest [] 0 t numbers values latest
-  unfolding log tableAfterAll acceptedIn latestWrite
+  unfolding log tableAfterAll acceptedIn latestWrite followed
   ran-none t numbers values latest =
       record { accepted = refl; table = λ s. refl; numbers-are = refl; values-are = refl; same-length = refl; latest-are = λ c. refl }
 

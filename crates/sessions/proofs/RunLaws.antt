@@ -9,7 +9,7 @@ use lib.ListN.{length}
 use Rattle.protocol.specs.declared.Action.{Action}
 use Rattle.protocol.specs.Slices.{Table}
 use Rattle.protocol.specs.Step.{tableAfter}
-use Rattle.protocol.specs.Runs.{Line, lineOf, log, tableAfterAll, writtenAfter, latestWrite}
+use Rattle.protocol.specs.Runs.{Line, lineOf, log, tableAfterAll, followed, writtenAfter, latestWrite}
 use Rattle.sessions.specs.File.{actionAt, actions}
 use Rattle.sessions.specs.Run.{acceptedIn}
 
@@ -58,6 +58,6 @@ accepted-more [] l = omega arith
 accepted-more (b ∷ ls) l = omega (arith, accepted-more ls l)
 
 pub latest-more : (cell v : ℕ) (ls : List Line) (l : Line) → latestWrite cell v (ls ++ (l ∷ [])) ≡ writtenAfter cell (latestWrite cell v ls) l
-unfolding latestWrite
+unfolding latestWrite followed
 latest-more cell v [] l = refl
 latest-more cell v (b ∷ ls) l = latest-more cell (writtenAfter cell v b) ls l

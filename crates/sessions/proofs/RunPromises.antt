@@ -3,7 +3,7 @@ use mathlib.Core.Path.{_≡_, refl, sym, _∙_}
 use mathlib.Core.Logic.{_≢_}
 use mathlib.Core.Bool.{Bool, true, false, not, _&&_}
 use mathlib.Core.List.{List, [], _∷_, _++_}
-use Prim.Native.Nat.{ℕ, zero, suc, _*_, _<_, _≤_}
+use Prim.Native.Nat.{ℕ, zero, suc, _<_, _≤_}
 use native.Mathlib.Omega.{arith}
 use lib.Dec.{eqb}
 use lib.ListN.{length, getD, drop, take}
@@ -17,9 +17,9 @@ use Rattle.protocol.specs.Fresh.{freshTable}
 use Rattle.protocol.specs.Runs.{CoherentRule, Line, log, tableAfterAll, isRead, acceptedRead, latestWrite}
 use Rattle.protocol.proofs.Demand3Reads.{reads-latest}
 use Rattle.protocol.proofs.FreshStaysSound.{never-7, live-is-latest}
-use Rattle.sessions.specs.File.{ruleIn, boardsIn, cellsIn, startingIn, recordsIn, actionAt}
+use Rattle.sessions.specs.File.{ruleIn, boardsIn, cellsIn, startingIn}
 use Rattle.sessions.specs.FileRefusals.{countIn}
-use Rattle.sessions.specs.Run.{actionsOf, logOf, endOf, noLine, lineOfRecord, countBelow, sumBelow, staleIn, staleOf}
+use Rattle.sessions.specs.Run.{actionsOf, logOf, endOf, noLine, lineOfRecord, recordOf, latestBefore, countBelow, sumBelow, staleIn, staleOf}
 use Rattle.sessions.specs.declared.Report.{Report}
 use Rattle.sessions.specs.Statements.{Runs}
 use Rattle.sessions.proofs.AcceptedLaws.{runnable}
@@ -33,7 +33,7 @@ unfolding countBelow
 none-counted zero test h = refl
 none-counted (suc n) test h = rw (h n (omega arith), none-counted n test (λ p l. h p (omega arith)))
 
-none-summed : (n : ℕ) (count : ℕ → ℕ) → ((c : ℕ) → count c ≡ 0) → sumBelow n count ≡ 0
+pub none-summed : (n : ℕ) (count : ℕ → ℕ) → ((c : ℕ) → count c ≡ 0) → sumBelow n count ≡ 0
 unfolding sumBelow
 none-summed zero count h = refl
 none-summed (suc n) count h = rw (h n, none-summed n count h)
@@ -82,10 +82,9 @@ module _ (file : List ℕ) where
 
 module _ (file : List ℕ) (t : Table) (numbers values : List ℕ) (r : Report) (t′ : Table) (numbers′ values′ : List ℕ) (s : Runs file t numbers values r t′ numbers′ values′) (ok : r .number ≡ 0) where
   -- demand 3: an accepted Read among the records answers the latest accepted write before it
-  pub run-reads-latest : CoherentRule (ruleIn file) → (i : ℕ) → i < countIn file → getD numbers′ i 0 ≡ 0 → actionAt (recordsIn file) (9 * i) .code ≡ 0 →
-      getD values′ i 0
-      ≡ latestWrite (actionAt (recordsIn file) (9 * i) .cell) (getD (startingIn file) (actionAt (recordsIn file) (9 * i) .cell) 0) (take i (logOf file))
-  unfolding acceptedRead isRead
+  pub run-reads-latest : CoherentRule (ruleIn file) → (i : ℕ) → i < countIn file → getD numbers′ i 0 ≡ 0 → recordOf file i .code ≡ 0 →
+      getD values′ i 0 ≡ latestBefore file i (recordOf file i .cell)
+  unfolding acceptedRead isRead latestBefore
   run-reads-latest co i h n c =
       let a = its-action file i h in
       let told = in-slice file t numbers values r t′ numbers′ values′ s ok (λ line. line .told .number) numbers numbers′ (s .numbers-are) i h in

@@ -1,15 +1,16 @@
 -- The run of a session file: "makes a fresh table from the file .. and performs its records in order", and its two counts. Assumes nothing.
+use mathlib.Core.Path.{_≡_}
 use mathlib.Core.Bool.{Bool, cond, not, _&&_}
 use mathlib.Core.List.{List, [], _∷_}
-use Prim.Native.Nat.{ℕ, zero, suc, _+_}
+use Prim.Native.Nat.{ℕ, zero, suc, _+_, _*_}
 use lib.Dec.{eqb}
-use lib.ListN.{getD}
+use lib.ListN.{getD, take}
 use Rattle.protocol.specs.declared.Action.{Action}
 use Rattle.protocol.specs.Masks.{hasBoard}
 use Rattle.protocol.specs.Slices.{Table}
 use Rattle.protocol.specs.Cell.{copyAt, liveMask, cellOf}
 use Rattle.protocol.specs.Fresh.{freshTable}
-use Rattle.protocol.specs.Runs.{Line, log, tableAfterAll, latestWrite}
+use Rattle.protocol.specs.Runs.{Line, log, tableAfterAll, latestWrite, naming}
 use Rattle.sessions.specs.File.{ruleIn, boardsIn, cellsIn, startingIn, recordsIn, actionAt, actionsIn}
 
 -- the records of a file as actions, the table at the end, and the log
@@ -29,6 +30,14 @@ noLine = record { action = actionAt [] 0; told = record { number = 0; value = 0 
 -- the line of the i-th record
 unfoldable pub lineOfRecord : (file : List ℕ) → (i : ℕ) → Line
 lineOfRecord file i = getD (logOf file) i noLine
+
+-- the i-th record, as an action
+abbrev pub recordOf : (file : List ℕ) → (i : ℕ) → Action
+recordOf file i = actionAt (recordsIn file) (9 * i)
+
+-- the latest accepted write to a cell before the i-th record; the starting value where there is none
+unfoldable pub latestBefore : (file : List ℕ) → (i cell : ℕ) → ℕ
+latestBefore file i cell = latestWrite cell (getD (startingIn file) cell 0) (take i (logOf file))
 
 -- "accepted records"
 unfoldable pub acceptedIn : List Line → ℕ
@@ -56,3 +65,11 @@ staleIn boards cells t latest =
 
 unfoldable pub staleOf : (file : List ℕ) → ℕ
 staleOf file = staleIn (boardsIn file) (cellsIn file) (endOf file) (λ c. latestWrite c (getD (startingIn file) c 0) (logOf file))
+
+-- two files with the same head and starting values, "holding the same actions in the same order for each cell number"
+pub record Alike (file other : List ℕ) : Type 0 where
+  pub same-rule : ruleIn file ≡ ruleIn other
+  pub same-boards : boardsIn file ≡ boardsIn other
+  pub same-cells : cellsIn file ≡ cellsIn other
+  pub same-starting : startingIn file ≡ startingIn other
+  pub same-order : (cell : ℕ) → naming (λ (a : Action). a .cell) cell (actionsOf file) ≡ naming (λ (a : Action). a .cell) cell (actionsOf other)

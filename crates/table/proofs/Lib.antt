@@ -12,3 +12,4 @@ pub mod FreshLaws
 pub mod CheckLaws
 pub mod Unique
 pub mod Promises
+pub mod CallPromises

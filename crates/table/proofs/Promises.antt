@@ -83,21 +83,33 @@ module _ (boards cells : ℕ) (t : Table) where
     pub check-is-accepted : (answerOf r .number ≡ 0) ↔ ((sizesGood boards cells t ≡ true) × (rule ≤ 4))
     check-is-accepted = rw (s .number) (check-accepted rule boards cells t)
 
-    pub check-says-sound : r ≡ Sound → AllSound rule boards cells t
-    unfolding answerOf
-    check-says-sound e = check-sound rule boards cells t .0 (go (lowestUnsound rule boards cells t) (sym e ∙ s .accepted (ap (λ (c : Checked). answerOf c .number) e)))
+    pub check-says-sound : (r ≡ Sound) ↔ ((sizesGood boards cells t ≡ true) × (rule ≤ 4) × AllSound rule boards cells t)
+    unfolding answerOf foundOf
+    check-says-sound = (there, λ f. s .accepted (check-is-accepted .1 (f .0, f .1)) ∙ ap foundOf (check-sound rule boards cells t .1 (f .2)))
       where
         go : (o : Option ℕ) → Sound ≡ foundOf o → o ≡ none
         go none d = refl
-        go (some c) d = absurd (not-both c (unfold foundOf in d))
+        go (some c) d = absurd (not-both c d)
 
-    pub check-says-unsound : (c : ℕ) → r ≡ Unsound c → LowestUnsound rule boards cells t c
-    unfolding answerOf
-    check-says-unsound c e = check-unsound rule boards cells t c .0 (go (lowestUnsound rule boards cells t) (sym e ∙ s .accepted (ap (λ (c : Checked). answerOf c .number) e)))
+        there : r ≡ Sound → (sizesGood boards cells t ≡ true) × (rule ≤ 4) × AllSound rule boards cells t
+        there e =
+            let z : answerOf r .number ≡ 0 = ap (λ (c : Checked). answerOf c .number) e in
+            let f = check-is-accepted .0 z in
+            (f .0, f .1, check-sound rule boards cells t .0 (go (lowestUnsound rule boards cells t) (sym e ∙ s .accepted z)))
+
+    pub check-says-unsound : (c : ℕ) → (r ≡ Unsound c) ↔ ((sizesGood boards cells t ≡ true) × (rule ≤ 4) × LowestUnsound rule boards cells t c)
+    unfolding answerOf foundOf
+    check-says-unsound c = (there, λ f. s .accepted (check-is-accepted .1 (f .0, f .1)) ∙ ap foundOf (check-unsound rule boards cells t c .1 (f .2)))
       where
         go : (o : Option ℕ) → Unsound c ≡ foundOf o → o ≡ some c
-        go none d = absurd (not-both c (unfold foundOf in sym d))
-        go (some b) d = unfold foundOf in cc
+        go none d = absurd (not-both c (sym d))
+        go (some b) d = cc
+
+        there : r ≡ Unsound c → (sizesGood boards cells t ≡ true) × (rule ≤ 4) × LowestUnsound rule boards cells t c
+        there e =
+            let z : answerOf r .number ≡ 0 = ap (λ (c : Checked). answerOf c .number) e in
+            let f = check-is-accepted .0 z in
+            (f .0, f .1, check-unsound rule boards cells t c .0 (go (lowestUnsound rule boards cells t) (sym e ∙ s .accepted z)))
 
   -- ---- `fresh`
 

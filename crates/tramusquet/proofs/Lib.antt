@@ -1,0 +1,2 @@
+-- The promises. Assumes nothing.
+pub mod Unique

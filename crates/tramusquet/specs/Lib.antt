@@ -1,0 +1,2 @@
+-- The listing for C. Assumes nothing.
+pub mod Statements
