@@ -61,5 +61,5 @@ module _ (rule boards cells : ℕ) (t t′ : Table) (same : Holds t t′) (calls
   pub calls-end-alike : Holds (leftBy t calls) (leftBy t′ calls′)
   calls-end-alike s =
       let e : leftBy t calls ≡ leftBy t′ calls′ =
-          rw (left-is rule boards cells t calls chain, left-is rule boards cells t′ calls′ chain′, held t t′ same) (same-end rule boards cells t′ (actionsOf calls) (actionsOf calls′) alike) in
+      rw (left-is rule boards cells t calls chain, left-is rule boards cells t′ calls′ chain′, held t t′ same) (same-end rule boards cells t′ (actionsOf calls) (actionsOf calls′) alike) in
       ap (λ (u : Table). u s) e
