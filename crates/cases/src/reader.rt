@@ -168,7 +168,7 @@ pub fn refused_files() {
 
 // P and N alone, as whoever lends asks for them.
 fn sizes(label: &[u8], file: &[u8]) {
-    let s = sessions::sizes_in(file);
+    let s = sessions::head_of(file);
     print::label(label);
     print::count(s.boards);
     print::count(s.cells);

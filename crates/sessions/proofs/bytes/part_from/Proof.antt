@@ -1,12 +1,12 @@
--- `tail` is the part from a place on. Assumes nothing.
+-- `part_from` is the part from a place on. Assumes nothing.
 use mathlib.Core.Path.{sym}
 use Prim.Native.Nat.{_-_}
 use native.Mathlib.Omega.{arith}
 use lib.ListN.{length, drop, length-drop, drop-of-length-le}
 use lib.Seq.{take-all}
 use borrow.Author.Needs.{needs}
-use Rattle.sessions.proofs.bytes.tail.Statement.{statement}
-use Rattle.sessions.proofs.bytes.tail.Tie as tie
+use Rattle.sessions.proofs.bytes.part_from.Statement.{statement}
+use Rattle.sessions.proofs.bytes.part_from.Tie as tie
 
 sub-result : tie.Need-sub-result
 sub-result c = search needs
@@ -27,8 +27,8 @@ returns c = let a = c .before .before .args in
 returns-2 : tie.Need-returns-2
 returns-2 c = let a = c .before .before .args in sym (drop-of-length-le (a .s .now) {i = a .from} (omega arith))
 
-pub tail-spec : {M : Type 1} → statement M
-tail-spec =
+pub part-from-spec : {M : Type 1} → statement M
+part-from-spec =
     tie.close
     (tie.spec
     sub-result

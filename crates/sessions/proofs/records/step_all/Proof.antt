@@ -1,4 +1,4 @@
--- `perform_all` performs the records in order: after i turns the first i of them are performed. Assumes nothing.
+-- `step_all` performs the records in order: after i turns the first i of them are performed. Assumes nothing.
 use mathlib.Core.Path.{_≡_, refl}
 use Prim.Native.Nat.{_/_, _-_, _≤_}
 use native.Mathlib.Omega.{arith}
@@ -7,8 +7,8 @@ use Rattle.protocol.specs.Slices.{tableOf}
 use Rattle.sessions.specs.File.{actions}
 use Rattle.sessions.specs.Code.{Ran}
 use Rattle.sessions.proofs.RanLaws.{noted-few, ran-none, ran-turn, accepted-inside}
-use Rattle.sessions.proofs.records.perform_all.Statement.{statement}
-use Rattle.sessions.proofs.records.perform_all.Tie as tie
+use Rattle.sessions.proofs.records.step_all.Statement.{statement}
+use Rattle.sessions.proofs.records.step_all.Tie as tie
 
 abbrev Inv-loop : tie.InvT-loop
 Inv-loop rule boards cells records main₀ copies₀ masks₀ numbers₀ values₀ latest₀ count accepted₀ i₀ main copies masks numbers values latest accepted i =
@@ -86,8 +86,8 @@ same-length-6 c = c .before .loop .inv .7 .same-length
 returns : tie.Need-returns Inv-loop μ-loop
 returns c = let e : c .before .loop .i ≡ length (c .before .before .before .before .before .before .before .before .before .args .records .now) / 9 = omega arith in rw e at (c .before .loop .inv .7)
 
-pub perform-all-spec : {M : Type 1} → statement M
-perform-all-spec =
+pub step-all-spec : {M : Type 1} → statement M
+step-all-spec =
     tie.close
     (tie.spec
     Inv-loop
