@@ -1,10 +1,4 @@
 // What a line of the answer is made of: words, numbers, and the contents of slices.
-use listing::Listed;
-use protocol::Answer;
-use sessions::Report;
-use sessions::Sizes;
-use table::Checked;
-
 pub fn text(s: &[u8]) {
     io::write_all(1, s);
 }
@@ -18,37 +12,36 @@ pub fn next(n: usize) {
     first(n);
 }
 
-pub fn answer(a: Answer) {
+fn labelled(s: &[u8], n: usize) {
+    text(s);
+    next(n);
+}
+
+pub fn answer(a: protocol::Answer) {
     first(a.number as usize);
     next(a.value as usize);
 }
 
-pub fn found(c: Checked) {
+pub fn found(c: table::Checked) {
     match c {
-        Checked::Sound => text(b"sound"),
-        Checked::Unsound(cell) => {
-            text(b"unsound");
-            next(cell);
-        }
-        Checked::Refused(n) => {
-            text(b"refused");
-            next(n as usize);
-        }
+        table::Checked::Sound => text(b"sound"),
+        table::Checked::Unsound(cell) => labelled(b"unsound", cell),
+        table::Checked::Refused(n) => labelled(b"refused", n as usize),
     }
 }
 
-pub fn sizes(s: Sizes) {
+pub fn sizes(s: sessions::Sizes) {
     first(s.boards);
     next(s.cells);
 }
 
-pub fn report(r: Report) {
+pub fn report(r: sessions::Report) {
     first(r.number as usize);
     next(r.accepted);
     next(r.stale);
 }
 
-pub fn listed(l: Listed) {
+pub fn listed(l: listing::Listed) {
     first(l.number as usize);
     next(l.length);
 }
@@ -65,8 +58,7 @@ fn tell(length: usize, sum: u64, n: u32) -> u64 {
 pub fn end(has: bool, length: usize, sum: u64) {
     if length > 64 {
         next(length);
-        text(b" numbers, sum");
-        next(sum as usize);
+        labelled(b" numbers, sum", sum as usize);
     }
     if has {
         text(b" |");
