@@ -27,7 +27,7 @@ static inline int sound(unsigned rule, unsigned boards, uint32_t current, const 
     if (bad) return 0;
     uint32_t differs = 0;
     if (rule <= 1)
-        for (unsigned p = 0; p < boards; p++) differs |= live >> p & 1 ? 0 : copies[p];
+        for (unsigned p = 0; p < boards; p++) differs |= copies[p] & ((live >> p & 1) - 1);
     else
         for (unsigned p = 0; p < boards; p++) differs |= copies[p] ^ (live >> p & 1 ? current : 0);
     return differs == 0;
