@@ -142,14 +142,17 @@ module _ (places : Places) (boards cells : ℕ) (ok : Proper places boards cells
 
 -- ---- a table is what its cells are
 
-pub same-table : (places : Places) (boards cells : ℕ) → Proper places boards cells → (t u : Table) → Sized boards cells t → Sized boards cells u →
-    ((c : ℕ) → cellBy places boards cells t c ≡ cellBy places boards cells u c) → t ≡ u
-unfolding cellBy
-same-table places boards cells ok t u y z e =
-    fun-ext (λ s. ext-getD 0 (t s) (u s) (y s ∙ sym (z s)) (λ i h. let f = ok .onto s i (omega (arith, y s, h)) in at s i (f .0) (f .1) (f .2) (f .3) (f .4)))
-  where
-    at : (s : Slice) (i c k : ℕ) → c < cells → k < width boards s → i ≡ places s c k → getD (t s) i 0 ≡ getD (u s) i 0
-    at s i c k l h q = rw q (rw (lt-ltb k (width boards s) h, lt-ltb c cells l) at (ap (λ (x : Cell). x s k) (e c)))
+module _ (places : Places) (boards cells : ℕ) (ok : Proper places boards cells) (t u : Table) (y : Sized boards cells t) (z : Sized boards cells u) where
+  -- slice by slice
+  pub same-list : (s : Slice) → ((c k : ℕ) → cellBy places boards cells t c s k ≡ cellBy places boards cells u c s k) → t s ≡ u s
+  unfolding cellBy
+  same-list s e = ext-getD 0 (t s) (u s) (y s ∙ sym (z s)) (λ i h. let f = ok .onto s i (omega (arith, y s, h)) in at i (f .0) (f .1) (f .2) (f .3) (f .4))
+    where
+      at : (i c k : ℕ) → c < cells → k < width boards s → i ≡ places s c k → getD (t s) i 0 ≡ getD (u s) i 0
+      at i c k l h q = rw q (rw (lt-ltb k (width boards s) h, lt-ltb c cells l) at (e c k))
+
+  pub same-table : ((c : ℕ) → cellBy places boards cells t c ≡ cellBy places boards cells u c) → t ≡ u
+  same-table e = fun-ext (λ s. same-list s (λ c k. ap (λ (x : Cell). x s k) (e c)))
 
 -- a cell has nothing at board P or above
 pub nothing-above : (places : Places) (boards cells : ℕ) (t : Table) (c : ℕ) (s : Slice) (k : ℕ) → width boards s ≤ k → cellBy places boards cells t c s k ≡ 0

@@ -11,7 +11,7 @@ use native.Mathlib.Decide.{ℕ-discrete, decLt}
 use lib.Dec.{eqb, leb}
 use borrow.Author.Tests.{not-true, not-false, ltb-false, leb-false, le-ltb, lt-leb, le-leb}
 use Rattle.protocol.specs.declared.Action.{Action}
-use Rattle.protocol.specs.Names.{Rule, Proc, ruleOf, procOf}
+use Rattle.protocol.specs.Names.{Rule, Proc, lastRule, lastCode, ruleOf, procOf}
 use Rattle.protocol.specs.Masks.{hasBoard}
 use Rattle.protocol.specs.Slices.{Slice, main, copies, masks, Table, sizesGood, every, cellByCell, width}
 use Rattle.protocol.specs.Cell.{Cell, copyAt, liveMask, cellOf}
@@ -52,7 +52,7 @@ quiet-guard = guard-every quiet (λ n b l h. go (eqb n 4) (not b) (and-both (leb
 -- no refusal that the handout does not know of holds exactly when the action is well formed and its cell is sound
 pub no-other-exactly : (rule boards cells : ℕ) (t : Table) (a : Action) →
     NoOtherHolds (refusals rule boards cells (seen boards cells t (a .cell)) a)
-    ↔ ((sizesGood boards cells t ≡ true) × (rule ≤ 4) × (malformed a ≡ false) × (offBoard boards a ≡ false) × (a .cell < cells) × (sound (ruleOf rule) boards (cellOf boards cells t (a .cell)) ≡ true))
+    ↔ ((sizesGood boards cells t ≡ true) × (rule ≤ lastRule) × (malformed a ≡ false) × (offBoard boards a ≡ false) × (a .cell < cells) × (sound (ruleOf rule) boards (cellOf boards cells t (a .cell)) ≡ true))
 unfolding refusals seen inHandout every
 no-other-exactly rule boards cells t a = (into, back)
   where
@@ -60,17 +60,17 @@ no-other-exactly rule boards cells t a = (into, back)
     rs = refusals rule boards cells (seen boards cells t (a .cell)) a
 
     into : NoOtherHolds (refusals rule boards cells (seen boards cells t (a .cell)) a) →
-        (sizesGood boards cells t ≡ true) × (rule ≤ 4) × (malformed a ≡ false) × (offBoard boards a ≡ false) × (a .cell < cells) × (sound (ruleOf rule) boards (cellOf boards cells t (a .cell)) ≡ true)
-    into k = let f = all-at (λ n b. inHandout n ≡ false → b ≡ false) (λ n e. refl) rs k in (not-false _ (f 1 refl), ltb-false 4 rule (f 2 refl), f 3 refl, f 5 refl, leb-false cells (a .cell) (f 6 refl), not-false _ (f 7 refl))
+        (sizesGood boards cells t ≡ true) × (rule ≤ lastRule) × (malformed a ≡ false) × (offBoard boards a ≡ false) × (a .cell < cells) × (sound (ruleOf rule) boards (cellOf boards cells t (a .cell)) ≡ true)
+    into k = let f = all-at (λ n b. inHandout n ≡ false → b ≡ false) (λ n e. refl) rs k in (not-false _ (f 1 refl), ltb-false lastRule rule (f 2 refl), f 3 refl, f 5 refl, leb-false cells (a .cell) (f 6 refl), not-false _ (f 7 refl))
 
-    back : (sizesGood boards cells t ≡ true) × (rule ≤ 4) × (malformed a ≡ false) × (offBoard boards a ≡ false) × (a .cell < cells) × (sound (ruleOf rule) boards (cellOf boards cells t (a .cell)) ≡ true) →
+    back : (sizesGood boards cells t ≡ true) × (rule ≤ lastRule) × (malformed a ≡ false) × (offBoard boards a ≡ false) × (a .cell < cells) × (sound (ruleOf rule) boards (cellOf boards cells t (a .cell)) ≡ true) →
         NoOtherHolds (refusals rule boards cells (seen boards cells t (a .cell)) a)
     back (z, r, m, o, l, s) =
         all-of OtherFails quiet (λ r e k. not-true _ (either (inHandout (r .answer .number)) (not (r .holds)) .0 e k)) rs
-        (rw (z, le-ltb 4 rule r, m, o, lt-leb cells (a .cell) l, s) (quiet-guard (cellOf boards cells t (a .cell)) (ruleOf rule) (procOf a)))
+        (rw (z, le-ltb lastRule rule r, m, o, lt-leb cells (a .cell) l, s) (quiet-guard (cellOf boards cells t (a .cell)) (ruleOf rule) (procOf a)))
 
 pub formed : (rule boards cells : ℕ) (t : Table) (a : Action) → NoOtherHolds (refusals rule boards cells (seen boards cells t (a .cell)) a) →
-    (rule ≤ 4) × (a .code ≤ 8) × Among boards (procOf a) × (sound (ruleOf rule) boards (cellOf boards cells t (a .cell)) ≡ true)
+    (rule ≤ lastRule) × (a .code ≤ lastCode) × Among boards (procOf a) × (sound (ruleOf rule) boards (cellOf boards cells t (a .cell)) ≡ true)
 formed rule boards cells t a quiet =
     let w = no-other-exactly rule boards cells t a .0 quiet in
     let c = code-fits a (w .2) in
@@ -102,7 +102,7 @@ module _ (rule boards cells : ℕ) (t : Table) (a : Action) (e : answer rule boa
   unfolding answer
   facts = accepted rule boards cells (seen boards cells t (a .cell)) a e
 
-  after-is : cellOf boards cells (tableAfter rule boards cells t a) (a .cell)
+  pub after-is : cellOf boards cells (tableAfter rule boards cells t a) (a .cell)
       ≡ stores (cellOf boards cells t (a .cell)) (effect (ruleOf rule) boards (cellOf boards cells t (a .cell)) (procOf a))
   unfolding answer cellAfter seen
   after-is = step-here rule boards cells t a ∙ rw e

@@ -31,7 +31,7 @@ use Rattle.protocol.proofs.FreshLaws.{fresh-main, fresh-masks}
 use Rattle.protocol.proofs.Demand2.{value-is, state-is}
 use Rattle.protocol.proofs.RunLaws.{line-tells, run-tells}
 
-coherent-rule : (rule : ℕ) → CoherentRule rule → Coherent (ruleOf rule)
+pub coherent-rule : (rule : ℕ) → CoherentRule rule → Coherent (ruleOf rule)
 unfolding ruleOf
 coherent-rule rule (l, h) = by-rule (λ (r : ℕ). 1 ≤ r → Coherent (ruleOf r)) (λ l. omega arith) (λ l. tt) (λ l. tt) (λ l. tt) (λ l. tt) rule h l
 

@@ -5,7 +5,7 @@ use mathlib.Core.Option.{none}
 use Prim.Native.Nat.{ℕ, _<_, _≤_}
 use native.Mathlib.Omega.{arith}
 use Rattle.protocol.specs.declared.Action.{Action}
-use Rattle.protocol.specs.Names.{Drop, Release, ruleOf, procOf}
+use Rattle.protocol.specs.Names.{Drop, Release, lastRule, ruleOf, procOf}
 use Rattle.protocol.specs.Masks.{hasBoard}
 use Rattle.protocol.specs.Slices.{Table}
 use Rattle.protocol.specs.Cell.{Cell, liveMask, lockMask, cellOf}
@@ -68,7 +68,7 @@ module _ (rule boards cells : ℕ) (t : Table) (a : Action) (quiet : NoOtherHold
       is-release = unfold procOf in rw code
 
       -- a dirty board would have the lock (Inv7)
-      by : (r : ℕ) → r ≤ 4 → 3 ≤ r → a .board < boards → Invariants boards (asState x) (ruleOf r) → Guard boards (asState x) (ruleOf r) (Release (a .board))
+      by : (r : ℕ) → r ≤ lastRule → 3 ≤ r → a .board < boards → Invariants boards (asState x) (ruleOf r) → Guard boards (asState x) (ruleOf r) (Release (a .board))
       by = unfold ruleOf in by-rule (λ (r : ℕ). 3 ≤ r → a .board < boards → Invariants boards (asState x) (ruleOf r) → Guard boards (asState x) (ruleOf r) (Release (a .board)))
           (λ l m I. absurd (omega arith)) (λ l m I. absurd (omega arith)) (λ l m I. absurd (omega arith)) (λ l m I. tt)
           (λ l m I. not-so _ (λ d. clash (I .6 (a .board) m d) (unfold asState in not-held)))

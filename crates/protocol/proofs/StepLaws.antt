@@ -9,7 +9,7 @@ use lib.Dec.{eqb, leb}
 use borrow.Author.Tests.{eqb-true, ltb-false, leb-true, le-leb, leb-false, not-false}
 use Rattle.protocol.specs.declared.Action.{Action}
 use Rattle.protocol.specs.declared.Answer.{Answer}
-use Rattle.protocol.specs.Names.{Rule, Proc, ruleOf, procOf}
+use Rattle.protocol.specs.Names.{Rule, Proc, lastRule, lastCode, ruleOf, procOf}
 use Rattle.protocol.specs.Slices.{Table, every, sizesGood, cellByCell}
 use Rattle.protocol.specs.Cell.{Cell, cellOf}
 use Rattle.protocol.specs.Soundness.{sound}
@@ -55,25 +55,29 @@ guard-every test f x r a = go (tests r a)
     go [] = refl
     go (t ∷ ts) = and-both (test (when (numberOf t) (refuses x t))) _ (f (numberOf t) (refuses x t) (guard-number t .0) (guard-number t .1)) (go ts)
 
--- a number from 1 to 16, and the value 0
+-- the highest number that an action gets
+abbrev pub lastNumber : ℕ
+lastNumber = 16
+
+-- a number from 1 to the highest, and the value 0
 abbrev pub Numbered : Refusal → Type 0
-Numbered r = (1 ≤ r .answer .number) × (r .answer .number ≤ 16) × (r .answer .value ≡ 0)
+Numbered r = (1 ≤ r .answer .number) × (r .answer .number ≤ lastNumber) × (r .answer .value ≡ 0)
 
 pub all-numbered : (rule boards cells : ℕ) (s : Seen) (a : Action) → All Numbered (refusals rule boards cells s a)
 unfolding refusals every
 all-numbered rule boards cells s a =
     all-of Numbered numbered says (refusals rule boards cells s a)
-    (guard-every numbered (λ n b l h. rw (le-leb 1 n (omega arith), le-leb n 16 h)) (s .cell) (ruleOf rule) (procOf a))
+    (guard-every numbered (λ n b l h. rw (le-leb 1 n (omega arith), le-leb n lastNumber (omega arith))) (s .cell) (ruleOf rule) (procOf a))
   where
     numbered : Refusal → Bool
-    numbered r = (leb 1 (r .answer .number) && leb (r .answer .number) 16) && eqb (r .answer .value) 0
+    numbered r = (leb 1 (r .answer .number) && leb (r .answer .number) lastNumber) && eqb (r .answer .value) 0
 
     says : (r : Refusal) → numbered r ≡ true → Numbered r
     says r e =
-        let f = and-left (leb 1 (r .answer .number) && leb (r .answer .number) 16) (eqb (r .answer .value) 0) e in (
-          leb-true _ _ (and-left (leb 1 (r .answer .number)) (leb (r .answer .number) 16) f),
-          leb-true _ _ (and-right (leb 1 (r .answer .number)) (leb (r .answer .number) 16) f),
-          eqb-true _ _ (and-right (leb 1 (r .answer .number) && leb (r .answer .number) 16) (eqb (r .answer .value) 0) e),
+        let f = and-left (leb 1 (r .answer .number) && leb (r .answer .number) lastNumber) (eqb (r .answer .value) 0) e in (
+          leb-true _ _ (and-left (leb 1 (r .answer .number)) (leb (r .answer .number) lastNumber) f),
+          leb-true _ _ (and-right (leb 1 (r .answer .number)) (leb (r .answer .number) lastNumber) f),
+          eqb-true _ _ (and-right (leb 1 (r .answer .number) && leb (r .answer .number) lastNumber) (eqb (r .answer .value) 0) e),
         )
 
 pub all-refuse : (rule boards cells : ℕ) (s : Seen) (a : Action) → Refuse (refusals rule boards cells s a)
@@ -86,7 +90,7 @@ all-silent rule boards cells s a = all-map Numbered _ (λ r k. k .2) (refusals r
 
 pub record Accepted (rule boards cells : ℕ) (s : Seen) (a : Action) : Type 0 where
   pub sizes : s .sizes ≡ true
-  pub codeFits : a .code ≤ 8
+  pub codeFits : a .code ≤ lastCode
   pub among : Among boards (procOf a)
   pub inside : a .cell < cells
   pub sounds : sound (ruleOf rule) boards (s .cell) ≡ true
@@ -108,7 +112,7 @@ module _ (rule boards cells : ℕ) (s : Seen) (a : Action) where
         inside = leb-false cells (a .cell) (f 6);
         sounds = k;
         guarded = guard-exactly boards (s .cell) (ruleOf rule) (procOf a) l (S .0) (S .1) .0
-            (has-exactly rule a (ltb-false 4 rule (f 2)) c .0 (f 4), all-behind Fails 7 (refusals rule boards cells s a) none);
+            (has-exactly rule a (ltb-false lastRule rule (f 2)) c .0 (f 4), all-behind Fails 7 (refusals rule boards cells s a) none);
       }
 
   pub accepted : answerTo rule boards cells s a .number ≡ 0 → Accepted rule boards cells s a

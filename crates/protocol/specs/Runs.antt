@@ -5,12 +5,13 @@ use Prim.Native.Nat.{ℕ, _≤_}
 use lib.Dec.{eqb}
 use Rattle.protocol.specs.declared.Action.{Action}
 use Rattle.protocol.specs.declared.Answer.{Answer}
+use Rattle.protocol.specs.Names.{lastRule}
 use Rattle.protocol.specs.Slices.{Table}
 use Rattle.protocol.specs.Step.{answer, tableAfter}
 
 -- "Rules 1 to 4 are the coherent ones"
 abbrev pub CoherentRule : (rule : ℕ) → Type 0
-CoherentRule rule = (1 ≤ rule) × (rule ≤ 4)
+CoherentRule rule = (1 ≤ rule) × (rule ≤ lastRule)
 
 unfoldable pub tableAfterAll : (rule boards cells : ℕ) → Table → List Action → Table
 tableAfterAll rule boards cells t [] = t

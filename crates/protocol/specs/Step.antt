@@ -5,7 +5,7 @@ use Prim.Native.Nat.{ℕ}
 use lib.Dec.{eqb, ltb, leb}
 use Rattle.protocol.specs.declared.Action.{Action}
 use Rattle.protocol.specs.declared.Answer.{Answer}
-use Rattle.protocol.specs.Names.{ruleOf, procOf}
+use Rattle.protocol.specs.Names.{lastRule, lastCode, ruleOf, procOf}
 use Rattle.protocol.specs.Slices.{Table, sizesGood}
 use Rattle.protocol.specs.Cell.{Cell, cellOf}
 use Rattle.protocol.specs.Soundness.{sound}
@@ -15,7 +15,7 @@ use Rattle.protocol.specs.Effects.{effect, valueOf, storesIn}
 
 -- "code above 8, or an unused field not 0": q is used by code 5 only, value by code 1 only
 unfoldable pub malformed : Action → Bool
-malformed a = ltb 8 (a .code) || not (eqb (a .code) 5) && not (eqb (a .to) 0) || not (eqb (a .code) 1) && not (eqb (a .value) 0)
+malformed a = ltb lastCode (a .code) || not (eqb (a .code) 5) && not (eqb (a .to) 0) || not (eqb (a .code) 1) && not (eqb (a .value) 0)
 
 -- "the action doesn't exist under this rule": Barrier is of rule 0, Acquire and Release of rules 3 and 4
 unfoldable pub missing : (rule code : ℕ) → Bool
@@ -37,7 +37,7 @@ seen boards cells t cell = record { sizes = sizesGood boards cells t; cell = cel
 unfoldable pub refusals : (rule boards cells : ℕ) → Seen → Action → List Refusal
 refusals rule boards cells s a =
     when 1 (not (s .sizes))
-    ∷ when 2 (ltb 4 rule)
+    ∷ when 2 (ltb lastRule rule)
     ∷ when 3 (malformed a)
     ∷ when 4 (missing rule (a .code))
     ∷ when 5 (offBoard boards a)

@@ -98,7 +98,7 @@ pub fn check(
         let mut board = 0;
         'boards: while board < boards {
             let copy = copies[cell * boards + board];
-            if !cell::board_sound(rule, m, copy, now, board) {
+            if !cell::copy_sound(rule, m.live, copy, now, board) {
                 answer = Checked::Unsound(cell);
                 break 'cells;
             }

@@ -4,6 +4,7 @@ ghost use Prim.Native.Nat.{_<_, _≤_, _^_};
 ghost use lib.Dec.{ltb};
 ghost use lib.ListN.{length, getD, set};
 ghost use Rattle.protocol.specs.Masks.{hasBoard, withBoard, withoutBoard, hasAnother};
+ghost use Rattle.table.specs.Code.{within};
 
 pub fn has_board(mask: u16, board: usize) -> bool
     requires { ⌜ board < 16 ⌝ }
@@ -32,6 +33,13 @@ pub fn has_another(mask: u16, board: usize) -> bool
     ensures { λ r. ⌜ r ≡ hasAnother mask board ⌝ }
 {
     without_board(mask, board) != 0
+}
+
+// Every board of the mask is in the other.
+pub fn is_within(mask: u16, other: u16) -> bool
+    ensures { λ r. ⌜ r ≡ within mask other ⌝ }
+{
+    mask & other == mask
 }
 
 // No board at P or above.
