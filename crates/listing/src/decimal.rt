@@ -19,7 +19,7 @@ pub fn width(n: usize) -> usize
 }
 
 // The digits of a number's tenth, then its last digit: answers the place behind them.
-pub fn decimal(n: usize, out: &mut [u8], at: usize) -> usize
+fn decimal(n: usize, out: &mut [u8], at: usize) -> usize
     requires { ⌜ at + length (digits n) ≤ length (now out) ⌝ }
     ensures { λ r. ⌜ (r ≡ at + length (digits n)) × (now (out .exit) ≡ written (digits n) at (now (out .entry))) ⌝ }
 {
@@ -30,4 +30,16 @@ pub fn decimal(n: usize, out: &mut [u8], at: usize) -> usize
     let next = decimal(n / 10, out, at);
     out[next] = 48 + (n % 10) as u8;
     next + 1
+}
+
+// The digits of a number: answers the place behind them. One digit, as most numbers of a listing have, asks for no recursion.
+pub fn put(n: usize, out: &mut [u8], at: usize) -> usize
+    requires { ⌜ at + length (digits n) ≤ length (now out) ⌝ }
+    ensures { λ r. ⌜ (r ≡ at + length (digits n)) × (now (out .exit) ≡ written (digits n) at (now (out .entry))) ⌝ }
+{
+    if n < 10 {
+        out[at] = 48 + n as u8;
+        return at + 1;
+    }
+    decimal(n, out, at)
 }

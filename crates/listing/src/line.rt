@@ -44,7 +44,7 @@ pub fn put_line(out: &mut [u8], at: usize, numbers: &[usize]) -> usize
     let mut next = at;
     let mut i = 0;
     while i < numbers.len() {
-        next = decimal::decimal(numbers[i], out, next);
+        next = decimal::put(numbers[i], out, next);
         i += 1;
         out[next] = byte_behind(numbers.len() - i);
         next += 1;

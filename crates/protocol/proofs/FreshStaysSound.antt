@@ -9,27 +9,28 @@ use Prim.Native.Nat.{ℕ, _<_, _≤_}
 use native.Mathlib.Omega.{arith}
 use lib.ListN.{length, getD}
 use Rattle.protocol.specs.declared.Action.{Action}
-use Rattle.protocol.specs.Names.{Rule, IncoherentMemory, GlobalImpl, CurrentCaches, ExclusiveLocks0, ExclusiveLocks, ruleOf}
+use Rattle.protocol.specs.Names.{Rule, IncoherentMemory, GlobalImpl, CurrentCaches, ExclusiveLocks0, ExclusiveLocks, lastRule, ruleOf}
 use Rattle.protocol.specs.Masks.{hasBoard}
 use Rattle.protocol.specs.Slices.{Table, masks}
 use Rattle.protocol.specs.Cell.{Cell, copyAt, liveMask, cellOf}
 use Rattle.protocol.specs.Soundness.{sound}
 use Rattle.protocol.specs.Step.{answer}
 use Rattle.protocol.specs.Fresh.{freshTable}
-use Rattle.protocol.specs.Runs.{log, tableAfterAll, latestWrite}
+use Rattle.protocol.specs.Runs.{CoherentRule, log, tableAfterAll, latestWrite}
 use Rattle.protocol.specs.Handout.{State, Inv2, Inv3, Inv4, Inv5, Inv6, Inv7, Invariants}
 use Rattle.protocol.specs.AsHandout.{asState, Stands}
 use Rattle.protocol.proofs.Booleans.{clash}
 use Rattle.protocol.proofs.MaskLaws.{has-none}
 use Rattle.protocol.proofs.HandoutLaws.{inv1}
 use Rattle.protocol.proofs.CellAsState.{live-is, nil-is, copy-current}
+use Rattle.protocol.proofs.Ladder.{AllCurrent, inv3-of, inv4-of}
 use Rattle.protocol.proofs.SoundExactly.{sound-exactly}
 use Rattle.protocol.proofs.NumberLaws.{by-rule}
 use Rattle.protocol.proofs.FreshLaws.{fresh-copies, fresh-masks}
 use Rattle.protocol.proofs.RunLaws.{run-tells}
 use Rattle.protocol.proofs.RefusalOrder.{answers-7}
 use Rattle.protocol.proofs.Demand2.{sound-after}
-use Rattle.protocol.proofs.Demand3Reads.{latest-is-current}
+use Rattle.protocol.proofs.Demand3Reads.{coherent-rule, latest-is-current}
 
 -- every cell is sound, those beyond the table too: they hold nothing
 abbrev pub Sound : (rule boards cells : ℕ) → Table → Type 0
@@ -87,6 +88,11 @@ pub run-sound : (rule boards cells : ℕ) (t : Table) (actions : List Action) �
 run-sound rule boards cells t actions s c =
     run-tells rule boards cells c (λ u x. sound (ruleOf rule) boards x ≡ true) (λ (u : Unit {0}) a. u) (λ u t a e f. sound-after rule boards cells t a e) tt t actions (s c)
 
+-- from rule 2 on every live cache is current
+all-current : (rule : ℕ) → rule ≤ lastRule → 2 ≤ rule → AllCurrent (ruleOf rule)
+unfolding ruleOf
+all-current = by-rule (λ (r : ℕ). 2 ≤ r → AllCurrent (ruleOf r)) (λ l. omega arith) (λ l. omega arith) (λ l. tt) (λ l. tt) (λ l. tt)
+
 -- ---- the promises
 
 module _ (rule boards : ℕ) (starting : List ℕ) (actions : List Action) where
@@ -96,17 +102,15 @@ module _ (rule boards : ℕ) (starting : List ℕ) (actions : List Action) where
   pub never-7 : (a : Action) → answer rule boards (length starting) (tableAfterAll rule boards (length starting) (freshTable boards starting) actions) a .number ≢ 7
   never-7 a e = clash (stays-sound (a .cell)) (answers-7 rule boards (length starting) _ a .0 e .6)
 
-  pub live-is-latest : 2 ≤ rule → rule ≤ 4 → (c p : ℕ) → p < boards →
+  pub live-is-latest : 2 ≤ rule → rule ≤ lastRule → (c p : ℕ) → p < boards →
       hasBoard (liveMask (cellOf boards (length starting) (tableAfterAll rule boards (length starting) (freshTable boards starting) actions) c)) p ≡ true →
       copyAt (cellOf boards (length starting) (tableAfterAll rule boards (length starting) (freshTable boards starting) actions) c) p
       ≡ latestWrite c (getD starting c 0) (log rule boards (length starting) (freshTable boards starting) actions)
   live-is-latest l h c p m y =
-      let i = late rule h l (sound-exactly (ruleOf rule) boards x .0 (stays-sound c) .1) in
-      copy-current boards x (i .0) p _ y (i .1 p m (live-is boards x p .0 y)) (latest-is-current rule boards starting (omega arith, h) actions c)
+      let I = sound-exactly (ruleOf rule) boards x .0 (stays-sound c) .1 in
+      let co : CoherentRule rule = (omega arith, h) in
+      copy-current boards x (inv3-of boards (asState x) (ruleOf rule) (coherent-rule rule co) I) p _ y
+      (inv4-of boards (asState x) (ruleOf rule) (all-current rule h l) I p m (live-is boards x p .0 y)) (latest-is-current rule boards starting co actions c)
     where
       x : Cell
       x = cellOf boards (length starting) (tableAfterAll rule boards (length starting) (freshTable boards starting) actions) c
-
-      late : (r : ℕ) → r ≤ 4 → 2 ≤ r → Invariants boards (asState x) (ruleOf r) → Inv3 boards (asState x) × Inv4 boards (asState x)
-      late = unfold ruleOf in by-rule (λ (r : ℕ). 2 ≤ r → Invariants boards (asState x) (ruleOf r) → Inv3 boards (asState x) × Inv4 boards (asState x))
-          (λ j I. absurd (omega arith)) (λ j I. absurd (omega arith)) (λ j I. (I .2, I .3)) (λ j I. (I .2, I .3)) (λ j I. (I .2, I .3))

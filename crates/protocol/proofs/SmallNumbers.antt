@@ -1,5 +1,5 @@
 -- Where the starting values and the written ones are below a bound, main, the copies and the answered values stay below it; an answer's number is
--- at most 16. Assumes nothing.
+-- at most the highest of an action. Assumes nothing.
 use mathlib.Core.Path.{_≡_, refl}
 use mathlib.Core.Bool.{Bool, true, false, cond}
 use mathlib.Core.List.{List, [], _∷_}
@@ -16,14 +16,14 @@ use Rattle.protocol.specs.Slices.{sliceNumber, Table}
 use Rattle.protocol.specs.Cell.{Cell, mainValue, copyAt, cellOf}
 use Rattle.protocol.specs.First.{Refusal, first, All}
 use Rattle.protocol.specs.Effects.{effect, valueOf}
-use Rattle.protocol.specs.Step.{Seen, seen, refusals, answerTo, answer, tableAfter}
+use Rattle.protocol.specs.Step.{Seen, seenBy, seen, refusals, answerTo, answerBy, answer, tableAfter}
 use Rattle.protocol.specs.Fresh.{freshTable}
-use Rattle.protocol.specs.Runs.{Line, log, isWrite}
+use Rattle.protocol.specs.Runs.{Line, logBy, log, isWrite}
 use Rattle.protocol.proofs.CurrentKept.{writtenBy}
 use Rattle.protocol.proofs.FirstLaws.{all-map}
 use Rattle.protocol.proofs.CellLaws.{store, stores}
 use Rattle.protocol.proofs.NumberLaws.{proc-writes}
-use Rattle.protocol.proofs.StepLaws.{Numbered, all-numbered, accepted, cellAfter, step-here, step-there}
+use Rattle.protocol.proofs.StepLaws.{lastNumber, Numbered, all-numbered, accepted, cellAfter, step-here, step-there}
 use Rattle.protocol.proofs.FreshLaws.{fresh-main, fresh-copies}
 
 -- ---- what is bounded
@@ -33,17 +33,17 @@ module _ (bound : ℕ) where
   SmallCell x = (mainValue x < bound) × ((p : ℕ) → copyAt x p < bound)
 
   abbrev SmallAnswer : Answer → Type 0
-  SmallAnswer o = (o .number ≤ 16) × (o .value < bound)
+  SmallAnswer o = (o .number ≤ lastNumber) × (o .value < bound)
 
   -- every action of a list has a byte for its code, and a value below the bound
   abbrev pub SmallActions : List Action → Type 0
   SmallActions [] = Unit {0}
   SmallActions (a ∷ l) = (a .code < 256) × (a .value < bound) × SmallActions l
 
-  -- every line of a log has a byte for its code, a number up to 16, and a value below the bound
+  -- every line of a log has a byte for its code, a number up to the highest, and a value below the bound
   abbrev pub SmallLines : List Line → Type 0
   SmallLines [] = Unit {0}
-  SmallLines (l ∷ ls) = (l .action .code < 256) × (l .told .number ≤ 16) × (l .told .value < bound) × SmallLines ls
+  SmallLines (l ∷ ls) = (l .action .code < 256) × (l .told .number ≤ lastNumber) × (l .told .value < bound) × SmallLines ls
 
   -- ---- a cell
 
@@ -109,7 +109,7 @@ module _ (bound : ℕ) where
     SmallTable t = (c : ℕ) → SmallCell (cellOf boards cells t c)
 
     step-small : (t : Table) (a : Action) → a .value < bound → SmallTable t → SmallTable (tableAfter rule boards cells t a)
-    unfolding seen
+    unfolding seenBy
     step-small t a v s c = go (ℕ-discrete c (a .cell))
       where
         go : Dec (c ≡ a .cell) → SmallCell (cellOf boards cells (tableAfter rule boards cells t a) c)
@@ -117,7 +117,7 @@ module _ (bound : ℕ) where
         go (no n) = rw (step-there rule boards cells t a c n) (s c)
 
     log-small : (t : Table) (l : List Action) → SmallTable t → SmallActions l → SmallLines (log rule boards cells t l)
-    unfolding log answer seen
+    unfolding logBy answerBy seenBy
     log-small t [] s k = tt
     log-small t (a ∷ l) s k =
         let o = answer-small (seen boards cells t (a .cell)) a (omega (arith, k .1)) (s (a .cell)) in

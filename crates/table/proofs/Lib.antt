@@ -1,5 +1,6 @@
 -- The laws and the promises. Assumes nothing.
 pub mod WordLaws
+pub mod MaskTests
 pub mod FillLaws
 pub mod ReadyLaws
 pub mod SoundLaws

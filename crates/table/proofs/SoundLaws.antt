@@ -8,7 +8,7 @@ use lib.Count.{ones}
 use lib.ListN.{getD}
 use borrow.Author.Tests.{ltb-true, ltb-false, le-ltb, leb-true, le-leb}
 use Rattle.protocol.specs.Names.{ruleNumber, ruleOf}
-use Rattle.protocol.specs.Masks.{hasBoard, hasAnother}
+use Rattle.protocol.specs.Masks.{hasBoard}
 use Rattle.protocol.specs.Slices.{Table, copies, main, masks}
 use Rattle.protocol.specs.Cell.{Cell, copyAt, liveMask, dirtyMask, lockMask, cellOf, currentValue}
 use Rattle.protocol.specs.Soundness.{Condition, noBitAtPOrAbove, notLiveHolds0, lockMaskIs0, dirtyIsLive, oneDirty, liveIsCurrent, oneLock, lockedIsOnly, dirtyIsLocked}
@@ -16,7 +16,8 @@ use Rattle.protocol.specs.Soundness.{from, upTo, askedBy, meets, sound}
 use Rattle.protocol.proofs.Booleans.{clash, not-so, and-left, and-right, and-both, board-at, board-of}
 use Rattle.protocol.proofs.NumberLaws.{by-rule}
 use Rattle.protocol.proofs.SoundExactly.{of-sound, sound-of}
-use Rattle.table.specs.Code.{Ready, MasksAt, currentAt, masksSound, boardSound}
+use Rattle.table.specs.Code.{Ready, MasksAt, currentAt, within, masksSound, copySound}
+use Rattle.table.proofs.MaskTests.{within-boards, boards-within, alone-boards, boards-alone}
 use Rattle.table.proofs.ReadyLaws.{copy-is, as-live, as-dirty, as-lock, current-is}
 
 -- ---- what a rule asks, by its number
@@ -48,124 +49,143 @@ only-from a b c f = go (ltb a b) refl
     go true e = refl
     go false e = f (ltb-false a b e)
 
+-- ---- no bit at P or above
+
+abbrev bitsBelow : (P live dirty lock : ℕ) → Bool
+bitsBelow P live dirty lock = ltb live (2 ^ P) && ltb dirty (2 ^ P) && ltb lock (2 ^ P)
+
+bits-dirty : (P live dirty lock : ℕ) → bitsBelow P live dirty lock ≡ true → dirty < 2 ^ P
+bits-dirty P live dirty lock b =
+    ltb-true _ _ (and-right (ltb live (2 ^ P)) (ltb dirty (2 ^ P)) (and-left (ltb live (2 ^ P) && ltb dirty (2 ^ P)) (ltb lock (2 ^ P)) b))
+
+bits-lock : (P live dirty lock : ℕ) → bitsBelow P live dirty lock ≡ true → lock < 2 ^ P
+bits-lock P live dirty lock b = ltb-true _ _ (and-right (ltb live (2 ^ P) && ltb dirty (2 ^ P)) (ltb lock (2 ^ P)) b)
+
 -- ---- a sound cell, as the code judges it
 
 module _ (rule P : ℕ) (h : rule ≤ 4) (x : Cell) where
   abbrev masksOk : Bool
   masksOk = masksSound rule P (liveMask x) (dirtyMask x) (lockMask x)
 
-  abbrev boardOk : ℕ → Bool
-  boardOk p = boardSound rule (liveMask x) (dirtyMask x) (lockMask x) (copyAt x p) (currentValue x) p
+  abbrev copyOk : ℕ → Bool
+  copyOk p = copySound rule (liveMask x) (copyAt x p) (currentValue x) p
 
   -- the parts of the two tests, in their order
   abbrev bits : Bool
-  bits = ltb (liveMask x) (2 ^ P) && ltb (dirtyMask x) (2 ^ P) && ltb (lockMask x) (2 ^ P)
+  bits = bitsBelow P (liveMask x) (dirtyMask x) (lockMask x)
 
   abbrev unlocked : Bool
   unlocked = ltb 2 rule || eqb (lockMask x) 0
 
+  abbrev dirty-live : Bool
+  dirty-live = within (dirtyMask x) (liveMask x)
+
   abbrev one-dirty : Bool
   one-dirty = ltb rule 1 || leb (ones (dirtyMask x)) 1
 
+  abbrev locked-only : Bool
+  locked-only = eqb (lockMask x) 0 || within (liveMask x) (lockMask x)
+
   abbrev one-lock : Bool
-  one-lock = ltb rule 3 || leb (ones (lockMask x)) 1
+  one-lock = ltb rule 3 || leb (ones (lockMask x)) 1 && locked-only
+
+  abbrev dirty-locked : Bool
+  dirty-locked = ltb rule 4 || within (dirtyMask x) (lockMask x)
 
   abbrev blank : ℕ → Bool
   blank p = hasBoard (liveMask x) p || eqb (copyAt x p) 0
 
-  abbrev dirty-live : ℕ → Bool
-  dirty-live p = not (hasBoard (dirtyMask x) p) || hasBoard (liveMask x) p
-
   abbrev fresh-copy : ℕ → Bool
   fresh-copy p = not (hasBoard (liveMask x) p) || eqb (copyAt x p) (currentValue x)
-
-  abbrev locked-only : ℕ → Bool
-  locked-only p = not (hasBoard (lockMask x) p) || not (hasAnother (liveMask x) p)
-
-  abbrev dirty-locked : ℕ → Bool
-  dirty-locked p = not (hasBoard (dirtyMask x) p) || hasBoard (lockMask x) p
 
   module _ (s : sound (ruleOf rule) P x ≡ true) where
     met : (c : Condition) → from c ≤ rule → rule ≤ upTo c → meets P x c ≡ true
     met c l u = of-sound (ruleOf rule) P x s c (asked rule h c l u)
 
+    in-bits : bits ≡ true
+    unfolding meets from upTo
+    in-bits = met noBitAtPOrAbove (omega arith) h
+
     sound-masks : masksOk ≡ true
     unfolding masksSound meets from upTo
     sound-masks =
-        and-both (bits && unlocked && one-dirty) one-lock
-        (and-both (bits && unlocked) one-dirty
-        (and-both bits unlocked (met noBitAtPOrAbove (omega arith) h) (only-from 2 rule (eqb (lockMask x) 0) (λ l. met lockMaskIs0 (omega arith) l)))
+        and-both (bits && unlocked && dirty-live && one-dirty && one-lock) dirty-locked
+        (and-both (bits && unlocked && dirty-live && one-dirty) one-lock
+        (and-both (bits && unlocked && dirty-live) one-dirty
+        (and-both (bits && unlocked) dirty-live
+        (and-both bits unlocked in-bits (only-from 2 rule (eqb (lockMask x) 0) (λ l. met lockMaskIs0 (omega arith) l)))
+        (boards-within P (dirtyMask x) (bits-dirty P _ _ _ in-bits) (liveMask x) (met dirtyIsLive (omega arith) h)))
         (only-from rule 1 (leb (ones (dirtyMask x)) 1) (λ l. met oneDirty l h)))
-        (only-from rule 3 (leb (ones (lockMask x)) 1) (λ l. met oneLock l h))
+        (only-from rule 3 (leb (ones (lockMask x)) 1 && locked-only) (λ l.
+        and-both (leb (ones (lockMask x)) 1) locked-only (met oneLock l h) (boards-alone P (lockMask x) (bits-lock P _ _ _ in-bits) (liveMask x) (met lockedIsOnly l h)))))
+        (only-from rule 4 (within (dirtyMask x) (lockMask x)) (λ l. boards-within P (dirtyMask x) (bits-dirty P _ _ _ in-bits) (lockMask x) (met dirtyIsLocked l h)))
 
-    sound-board : (p : ℕ) → p < P → boardOk p ≡ true
-    unfolding boardSound meets from upTo
-    sound-board p l =
-        and-both (blank p && dirty-live p && (ltb rule 2 || fresh-copy p) && (ltb rule 3 || locked-only p)) (ltb rule 4 || dirty-locked p)
-        (and-both (blank p && dirty-live p && (ltb rule 2 || fresh-copy p)) (ltb rule 3 || locked-only p)
-        (and-both (blank p && dirty-live p) (ltb rule 2 || fresh-copy p)
-        (and-both (blank p) (dirty-live p) (board-at P blank (met notLiveHolds0 (omega arith) h) p l) (board-at P dirty-live (met dirtyIsLive (omega arith) h) p l))
-        (only-from rule 2 (fresh-copy p) (λ r. board-at P fresh-copy (met liveIsCurrent r h) p l)))
-        (only-from rule 3 (locked-only p) (λ r. board-at P locked-only (met lockedIsOnly r h) p l)))
-        (only-from rule 4 (dirty-locked p) (λ r. board-at P dirty-locked (met dirtyIsLocked r h) p l))
+    sound-copy : (p : ℕ) → p < P → copyOk p ≡ true
+    unfolding copySound meets from upTo
+    sound-copy p l =
+        and-both (blank p) (ltb rule 2 || fresh-copy p)
+        (board-at P blank (met notLiveHolds0 (omega arith) h) p l)
+        (only-from rule 2 (fresh-copy p) (λ r. board-at P fresh-copy (met liveIsCurrent r h) p l))
 
-  parts-sound : masksOk ≡ true → ((p : ℕ) → p < P → boardOk p ≡ true) → sound (ruleOf rule) P x ≡ true
-  unfolding masksSound boardSound
+  parts-sound : masksOk ≡ true → ((p : ℕ) → p < P → copyOk p ≡ true) → sound (ruleOf rule) P x ≡ true
+  unfolding masksSound copySound
   parts-sound m b = sound-of (ruleOf rule) P x (λ c a. go c (asks-from rule h c a) (asks-up-to rule h c a))
     where
-      m3 : (bits && unlocked && one-dirty) ≡ true
-      m3 = and-left (bits && unlocked && one-dirty) one-lock m
+      m5 : (bits && unlocked && dirty-live && one-dirty && one-lock) ≡ true
+      m5 = and-left (bits && unlocked && dirty-live && one-dirty && one-lock) dirty-locked m
+
+      m4 : (bits && unlocked && dirty-live && one-dirty) ≡ true
+      m4 = and-left (bits && unlocked && dirty-live && one-dirty) one-lock m5
+
+      m3 : (bits && unlocked && dirty-live) ≡ true
+      m3 = and-left (bits && unlocked && dirty-live) one-dirty m4
 
       m2 : (bits && unlocked) ≡ true
-      m2 = and-left (bits && unlocked) one-dirty m3
+      m2 = and-left (bits && unlocked) dirty-live m3
 
-      b4 : (p : ℕ) → p < P → (blank p && dirty-live p && (ltb rule 2 || fresh-copy p) && (ltb rule 3 || locked-only p)) ≡ true
-      b4 p l = and-left (blank p && dirty-live p && (ltb rule 2 || fresh-copy p) && (ltb rule 3 || locked-only p)) (ltb rule 4 || dirty-locked p) (b p l)
+      m1 : bits ≡ true
+      m1 = and-left bits unlocked m2
 
-      b3 : (p : ℕ) → p < P → (blank p && dirty-live p && (ltb rule 2 || fresh-copy p)) ≡ true
-      b3 p l = and-left (blank p && dirty-live p && (ltb rule 2 || fresh-copy p)) (ltb rule 3 || locked-only p) (b4 p l)
-
-      b2 : (p : ℕ) → p < P → (blank p && dirty-live p) ≡ true
-      b2 p l = and-left (blank p && dirty-live p) (ltb rule 2 || fresh-copy p) (b3 p l)
+      locks : 3 ≤ rule → (leb (ones (lockMask x)) 1 && locked-only) ≡ true
+      locks l = from-on rule 3 (leb (ones (lockMask x)) 1 && locked-only) (and-right (bits && unlocked && dirty-live && one-dirty) one-lock m5) l
 
       go : (c : Condition) → from c ≤ rule → rule ≤ upTo c → meets P x c ≡ true
-      go noBitAtPOrAbove l u = unfold meets in and-left bits unlocked m2
-      go notLiveHolds0 l u = unfold meets in board-of P blank (λ p k. and-left (blank p) (dirty-live p) (b2 p k))
+      go noBitAtPOrAbove l u = unfold meets in m1
+      go notLiveHolds0 l u = unfold meets in board-of P blank (λ p k. and-left (blank p) (ltb rule 2 || fresh-copy p) (b p k))
       go lockMaskIs0 l u = unfold meets upTo in from-on 2 rule (eqb (lockMask x) 0) (and-right bits unlocked m2) u
-      go dirtyIsLive l u = unfold meets in board-of P dirty-live (λ p k. and-right (blank p) (dirty-live p) (b2 p k))
-      go oneDirty l u = unfold meets from in from-on rule 1 (leb (ones (dirtyMask x)) 1) (and-right (bits && unlocked) one-dirty m3) l
-      go liveIsCurrent l u = unfold meets from in
-          board-of P fresh-copy (λ p k. from-on rule 2 (fresh-copy p) (and-right (blank p && dirty-live p) (ltb rule 2 || fresh-copy p) (b3 p k)) l)
-      go oneLock l u = unfold meets from in from-on rule 3 (leb (ones (lockMask x)) 1) (and-right (bits && unlocked && one-dirty) one-lock m) l
+      go dirtyIsLive l u = unfold meets in within-boards P (dirtyMask x) (bits-dirty P _ _ _ m1) (liveMask x) (and-right (bits && unlocked) dirty-live m3)
+      go oneDirty l u = unfold meets from in from-on rule 1 (leb (ones (dirtyMask x)) 1) (and-right (bits && unlocked && dirty-live) one-dirty m4) l
+      go liveIsCurrent l u = unfold meets from in board-of P fresh-copy (λ p k. from-on rule 2 (fresh-copy p) (and-right (blank p) (ltb rule 2 || fresh-copy p) (b p k)) l)
+      go oneLock l u = unfold meets from in and-left (leb (ones (lockMask x)) 1) locked-only (locks l)
       go lockedIsOnly l u = unfold meets from in
-          board-of P locked-only (λ p k. from-on rule 3 (locked-only p) (and-right (blank p && dirty-live p && (ltb rule 2 || fresh-copy p)) (ltb rule 3 || locked-only p) (b4 p k)) l)
+          alone-boards P (lockMask x) (bits-lock P _ _ _ m1) (liveMask x) (leb-true _ _ (and-left (leb (ones (lockMask x)) 1) locked-only (locks l))) (and-right (leb (ones (lockMask x)) 1) locked-only (locks l))
       go dirtyIsLocked l u = unfold meets from in
-          board-of P dirty-locked (λ p k. from-on rule 4 (dirty-locked p) (and-right (blank p && dirty-live p && (ltb rule 2 || fresh-copy p) && (ltb rule 3 || locked-only p)) (ltb rule 4 || dirty-locked p) (b p k)) l)
+          within-boards P (dirtyMask x) (bits-dirty P _ _ _ m1) (lockMask x) (from-on rule 4 (within (dirtyMask x) (lockMask x)) (and-right (bits && unlocked && dirty-live && one-dirty && one-lock) dirty-locked m) l)
 
 -- ---- the same over the slices: the masks of a cell, and its current value
 
 pub masks-below : (rule boards live dirty lock : ℕ) → masksSound rule boards live dirty lock ≡ true → dirty < 2 ^ boards
 unfolding masksSound
 masks-below rule boards live dirty lock e =
-    ltb-true dirty (2 ^ boards) (and-right (ltb live (2 ^ boards)) (ltb dirty (2 ^ boards)) (and-left (a && b) c (and-left (a && b && c) d (and-left (a && b && c && d) f (and-left (a && b && c && d && f) g e)))))
+    bits-dirty boards live dirty lock (and-left a b (and-left (a && b) c (and-left (a && b && c) d (and-left (a && b && c && d) f (and-left (a && b && c && d && f) g e)))))
   where
     a : Bool
-    a = ltb live (2 ^ boards)
+    a = bitsBelow boards live dirty lock
 
     b : Bool
-    b = ltb dirty (2 ^ boards)
+    b = ltb 2 rule || eqb lock 0
 
     c : Bool
-    c = ltb lock (2 ^ boards)
+    c = within dirty live
 
     d : Bool
-    d = ltb 2 rule || eqb lock 0
+    d = ltb rule 1 || leb (ones dirty) 1
 
     f : Bool
-    f = ltb rule 1 || leb (ones dirty) 1
+    f = ltb rule 3 || leb (ones lock) 1 && (eqb lock 0 || within live lock)
 
     g : Bool
-    g = ltb rule 3 || leb (ones lock) 1
+    g = ltb rule 4 || within dirty lock
 
 module _ (rule boards cells cell : ℕ) (t : Table) (h : rule ≤ 4) (y : Ready boards cells cell t) (live dirty lock : ℕ) (at : MasksAt (t masks) cell live dirty lock) where
   abbrev here : Cell
@@ -183,21 +203,19 @@ module _ (rule boards cells cell : ℕ) (t : Table) (h : rule ≤ 4) (y : Ready 
 
   -- what the code asks of a board's copy
   abbrev pub passes : (now board : ℕ) → Bool
-  passes now board = boardSound rule live dirty lock (getD (t copies) (cell * boards + board) 0) now board
+  passes now board = copySound rule live (getD (t copies) (cell * boards + board) 0) now board
 
   module _ (q : masksSound rule boards live dirty lock ≡ true) (now : ℕ) (z : now ≡ currentAt boards cell dirty (t main) (t copies)) where
-    same-board : (p : ℕ) → p < boards → boardOk rule boards h here p ≡ passes now p
+    same-board : (p : ℕ) → p < boards → copyOk rule boards h here p ≡ passes now p
     same-board p l =
         rw (
           as-live boards cells cell t y live dirty lock at,
-          as-dirty boards cells cell t y live dirty lock at,
-          as-lock boards cells cell t y live dirty lock at,
           copy-is boards cells cell t y p l,
           z ∙ sym (current-is boards cells cell t y live dirty lock at (masks-below rule boards live dirty lock q)),
         )
 
-    pub unsound-board : (p : ℕ) → p < boards → passes now p ≡ false → sound (ruleOf rule) boards here ≡ false
-    unsound-board p l e = not-so _ (λ s. clash (sym (same-board p l) ∙ sound-board rule boards h here s p l) e)
+    pub unsound-copy : (p : ℕ) → p < boards → passes now p ≡ false → sound (ruleOf rule) boards here ≡ false
+    unsound-copy p l e = not-so _ (λ s. clash (sym (same-board p l) ∙ sound-copy rule boards h here s p l) e)
 
     pub all-boards : ((p : ℕ) → p < boards → passes now p ≡ true) → sound (ruleOf rule) boards here ≡ true
     all-boards f = parts-sound rule boards h here (same-masks ∙ q) (λ p l. same-board p l ∙ f p l)

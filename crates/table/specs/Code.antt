@@ -4,10 +4,11 @@ use mathlib.Core.Bool.{Bool, cond, not, _&&_, _||_}
 use mathlib.Core.List.{List}
 use Prim.Native.Nat.{ℕ, _+_, _*_, _^_, _<_, _≤_}
 use lib.Dec.{eqb, ltb, leb}
+use lib.Bits.{bitAnd}
 use lib.Count.{ones}
-use lib.ListN.{length, getD}
+use lib.ListN.{length, getD, set}
 use Rattle.protocol.specs.Names.{Rule, ruleOf, procOf}
-use Rattle.protocol.specs.Masks.{hasBoard, hasAnother, lowestBoard}
+use Rattle.protocol.specs.Masks.{hasBoard, withBoard, lowestBoard}
 use Rattle.protocol.specs.Slices.{Slice, main, copies, masks, Table, width}
 use Rattle.protocol.specs.Effects.{effect, valueOf, storesIn}
 use Rattle.table.specs.Statements.{Holds}
@@ -46,22 +47,31 @@ pub record MasksAt (inMasks : List ℕ) (cell live dirty lock : ℕ) : Type 0 wh
 unfoldable pub currentAt : (boards cell dirty : ℕ) → (inMain inCopies : List ℕ) → ℕ
 currentAt boards cell dirty inMain inCopies = cond (eqb dirty 0) (getD inMain cell 0) (getD inCopies (cell * boards + lowestBoard dirty) 0)
 
--- soundness, as far as the three masks show it
+-- every board of a mask is in the other
+unfoldable pub within : (mask other : ℕ) → Bool
+within mask other = eqb (bitAnd mask other) mask
+
+-- soundness, as far as the three masks show it: Inv2, Inv3, Inv5 with Inv6, and Inv7 stand last
 unfoldable pub masksSound : (rule boards live dirty lock : ℕ) → Bool
 masksSound rule boards live dirty lock =
-    ltb live (2 ^ boards) && ltb dirty (2 ^ boards) && ltb lock (2 ^ boards)
+    (ltb live (2 ^ boards) && ltb dirty (2 ^ boards) && ltb lock (2 ^ boards))
     && (ltb 2 rule || eqb lock 0)
+    && within dirty live
     && (ltb rule 1 || leb (ones dirty) 1)
-    && (ltb rule 3 || leb (ones lock) 1)
+    && (ltb rule 3 || leb (ones lock) 1 && (eqb lock 0 || within live lock))
+    && (ltb rule 4 || within dirty lock)
 
--- soundness at one board
-unfoldable pub boardSound : (rule live dirty lock copy current board : ℕ) → Bool
-boardSound rule live dirty lock copy current board =
-    (hasBoard live board || eqb copy 0)
-    && (not (hasBoard dirty board) || hasBoard live board)
-    && (ltb rule 2 || (not (hasBoard live board) || eqb copy current))
-    && (ltb rule 3 || (not (hasBoard lock board) || not (hasAnother live board)))
-    && (ltb rule 4 || (not (hasBoard dirty board) || hasBoard lock board))
+-- soundness of one board's copy: 0 where it is not live, the current value where it is (Inv4)
+unfoldable pub copySound : (rule live copy current board : ℕ) → Bool
+copySound rule live copy current board = (hasBoard live board || eqb copy 0) && (ltb rule 2 || (not (hasBoard live board) || eqb copy current))
+
+-- the masks with a board put into the one at a place
+abbrev pub marked : (w : List ℕ) → (at board : ℕ) → List ℕ
+marked w at board = set w at (withBoard (getD w at 0) board)
+
+-- and with a board that has got a copy: it is live and, where the copy was written there, dirty
+abbrev pub received : (w : List ℕ) → (live board : ℕ) → (written : Bool) → List ℕ
+received w live board written = cond written (marked (marked w live board) (live + 1) board) (marked w live board)
 
 -- n is what the guard of an action answers on every cell with these masks, this copy at its board, and this current value
 abbrev pub GuardGives : (rule live dirty lock copy current : ℕ) → Action → (n : ℕ) → Type 0

@@ -6,7 +6,7 @@ ghost use Rattle.protocol.specs.Names.{ruleOf};
 ghost use Rattle.protocol.specs.Slices.{tableOf};
 ghost use Rattle.protocol.specs.Cell.{cellOf};
 ghost use Rattle.protocol.specs.Soundness.{sound as isSound};
-ghost use Rattle.table.specs.Code.{Ready, MasksAt, currentAt, masksSound, boardSound};
+ghost use Rattle.table.specs.Code.{Ready, MasksAt, currentAt, masksSound, copySound};
 use crate::mask;
 
 pub struct Masks {
@@ -19,7 +19,7 @@ pub fn masks_at(masks: &[u16], cell: usize) -> Masks
     requires { ⌜ (cell < 512) × (cell * 3 + 2 < length (now masks)) ⌝ }
     ensures { λ r. ⌜ MasksAt (now (masks .entry)) cell (r .live) (r .dirty) (r .lock) ⌝ }
 {
-    let at = cell * 3;
+    let at = cell * protocol::MASKS_PER_CELL;
     Masks {
         live: masks[at],
         dirty: masks[at + 1],
@@ -39,32 +39,28 @@ pub fn current(boards: usize, main: &[u32], copies: &[u32], cell: usize, dirty: 
     copies[cell * boards + board]
 }
 
-// What the masks alone show: no bit at P or above, no lock below rule 3, at most one dirty board, at most one lock.
+// What the masks alone show, each condition by whole masks: no bit at P or above, no lock below rule 3, then Inv2, Inv3, Inv5, Inv6, Inv7.
+// With at most one lock, "when p has the lock no other board is live" says: nobody has the lock, or every live board has it.
 pub fn masks_sound(rule: u8, boards: usize, m: Masks) -> bool
     requires { ⌜ boards ≤ 16 ⌝ }
     ensures { λ r. ⌜ r ≡ masksSound rule boards (m .live) (m .dirty) (m .lock) ⌝ }
 {
-    mask::is_below(m.live, boards)
-        & mask::is_below(m.dirty, boards)
-        & mask::is_below(m.lock, boards)
+    mask::is_below(m.live | m.dirty | m.lock, boards)
         & ((rule > 2) | (m.lock == 0))
+        & mask::is_within(m.dirty, m.live)
         & ((rule < 1) | (u16::count_ones(m.dirty) <= 1))
-        & ((rule < 3) | (u16::count_ones(m.lock) <= 1))
+        & ((rule < 3)
+            | ((u16::count_ones(m.lock) <= 1) & ((m.lock == 0) | mask::is_within(m.live, m.lock))))
+        & ((rule < 4) | mask::is_within(m.dirty, m.lock))
 }
 
-// What one board shows, beside the current value.
-pub fn board_sound(rule: u8, m: Masks, copy: u32, current: u32, board: usize) -> bool
+// What one board's copy shows, beside the current value.
+pub fn copy_sound(rule: u8, live: u16, copy: u32, current: u32, board: usize) -> bool
     requires { ⌜ board < 16 ⌝ }
-    ensures { λ r. ⌜ r ≡ boardSound rule (m .live) (m .dirty) (m .lock) copy current board ⌝ }
+    ensures { λ r. ⌜ r ≡ copySound rule live copy current board ⌝ }
 {
-    let live = mask::has_board(m.live, board);
-    let dirty = mask::has_board(m.dirty, board);
-    let lock = mask::has_board(m.lock, board);
-    (live | (copy == 0))
-        & (!dirty | live)
-        & ((rule < 2) | (!live | (copy == current)))
-        & ((rule < 3) | (!lock | !mask::has_another(m.live, board)))
-        & ((rule < 4) | (!dirty | lock))
+    let is_live = mask::has_board(live, board);
+    (is_live | (copy == 0)) & ((rule < 2) | (!is_live | (copy == current)))
 }
 
 pub fn sound(
@@ -87,7 +83,7 @@ pub fn sound(
     let mut board = 0;
     while board < boards {
         let copy = copies[cell * boards + board];
-        if !board_sound(rule, m, copy, now, board) {
+        if !copy_sound(rule, m.live, copy, now, board) {
             return false;
         }
         board += 1;

@@ -10,16 +10,16 @@ use borrow.Author.Tests.{not-true, not-false}
 use Rattle.protocol.specs.Slices.{tableOf}
 use Rattle.table.specs.declared.Checked.the-variants.{Sound}
 use Rattle.table.specs.Statements.{foundOf}
-use Rattle.table.specs.Code.{Ready, boardSound}
+use Rattle.table.specs.Code.{Ready, copySound}
 use Rattle.table.proofs.ReadyLaws.{ready, main-in, row-in, copy-in, copy-small, masks-in}
-use Rattle.table.proofs.SoundLaws.{masks-below, unsound-masks, unsound-board, all-boards}
+use Rattle.table.proofs.SoundLaws.{masks-below, unsound-masks, unsound-copy, all-boards}
 use Rattle.table.proofs.CheckLaws.{leftFrom, left-step, left-stop, left-end, refused-1, refused-2, found}
 use Rattle.table.proofs.check.Statement.{statement}
 use Rattle.table.proofs.check.Tie as tie
 
 abbrev Inv-boards : tie.InvT-boards
 Inv-boards rule boards cells main copies masks answer₀ cell m now board₀ answer board =
-    (board ≤ boards) × (answer ≡ answer₀) × ((p : ℕ) → p < board → boardSound rule (m .live) (m .dirty) (m .lock) (getD copies (cell * boards + p) 0) now p ≡ true)
+    (board ≤ boards) × (answer ≡ answer₀) × ((p : ℕ) → p < board → copySound rule (m .live) (getD copies (cell * boards + p) 0) now p ≡ true)
 
 abbrev μ-boards : tie.MeasureT-boards
 μ-boards rule boards cells main copies masks answer₀ cell m now board₀ answer board = boards - board
@@ -75,8 +75,8 @@ mul-copy-2 c = omega (arith, small c)
 shared-slice-read-copy : tie.Need-shared-slice-read-copy Inv-boards μ-boards Inv-cells μ-cells
 shared-slice-read-copy c = copy-in _ _ _ _ (at-cell (c .before .before .before .before .before .before .before)) _ (c .before .boards-test .taken)
 
-board-sound-requires : tie.Need-board-sound-requires Inv-boards μ-boards Inv-cells μ-cells
-board-sound-requires c κs = omega (arith, at-cell (c .before .before .before .before .before .before .before) .few-boards)
+copy-sound-requires : tie.Need-copy-sound-requires Inv-boards μ-boards Inv-cells μ-cells
+copy-sound-requires c κs = omega (arith, at-cell (c .before .before .before .before .before .before .before) .few-boards)
 
 add-board : tie.Need-add-board Inv-boards μ-boards Inv-cells μ-cells
 add-board c = omega arith
@@ -85,7 +85,7 @@ boards-less : tie.Need-boards-less Inv-boards μ-boards Inv-cells μ-cells
 boards-less c = omega arith
 
 boards-again : tie.Need-boards-again Inv-boards μ-boards Inv-cells μ-cells
-boards-again c = let i = c .before .before .before .before .boards .inv in (omega arith, i .1, below-more _ _ (i .2) (sym (c .before .board-sound .ensures) ∙ not-false _ (c .if4 .left)))
+boards-again c = let i = c .before .before .before .before .boards .inv in (omega arith, i .1, below-more _ _ (i .2) (sym (c .before .copy-sound .ensures) ∙ not-false _ (c .if4 .left)))
 
 add-cell : tie.Need-add-cell Inv-boards μ-boards Inv-cells μ-cells
 add-cell c = omega arith
@@ -114,7 +114,7 @@ returns-4 c = let j = c .before .before .before .before .cells .inv in
 returns-5 : tie.Need-returns-5 Inv-boards μ-boards Inv-cells μ-cells
 unfolding foundOf
 returns-5 c = let j = c .before .before .before .before .before .before .before .before .before .before .cells .inv in
-    let s = unsound-board _ _ _ _ _ (c .before .before .before .before .before .before .before .before .before .before .before .if2 .left) (at-cell (c .before .before .before .before .before .before .before .before .before)) _ _ _ (c .before .before .before .before .before .before .before .before .masks-at .ensures) (sym (c .before .before .before .before .before .before .before .masks-sound .ensures) ∙ not-false _ (c .before .before .before .before .before .before .if3 .left)) _ (c .before .before .before .before .before .current .ensures) _ (c .before .before .before .boards-test .taken) (sym (c .before .board-sound .ensures) ∙ not-true _ (c .if4 .taken)) in
+    let s = unsound-copy _ _ _ _ _ (c .before .before .before .before .before .before .before .before .before .before .before .if2 .left) (at-cell (c .before .before .before .before .before .before .before .before .before)) _ _ _ (c .before .before .before .before .before .before .before .before .masks-at .ensures) (sym (c .before .before .before .before .before .before .before .masks-sound .ensures) ∙ not-false _ (c .before .before .before .before .before .before .if3 .left)) _ (c .before .before .before .before .before .current .ensures) _ (c .before .before .before .boards-test .taken) (sym (c .before .copy-sound .ensures) ∙ not-true _ (c .if4 .taken)) in
     found _ _ _ _ (sym (c .before .before .before .before .before .before .before .before .before .before .before .before .before .sizes-good .ensures) ∙ not-false _ (c .before .before .before .before .before .before .before .before .before .before .before .before .if1 .left)) (c .before .before .before .before .before .before .before .before .before .before .before .if2 .left) _ (ap foundOf (sym (left-stop _ _ _ _ _ (c .before .before .before .before .before .before .before .before .before .cells-test .taken) s) ∙ sym (j .2)))
 
 pub check-spec : {M : Type 1} → statement M
@@ -137,7 +137,7 @@ check-spec =
     add-copy
     mul-copy-2
     shared-slice-read-copy
-    board-sound-requires
+    copy-sound-requires
     add-board
     boards-less
     boards-again

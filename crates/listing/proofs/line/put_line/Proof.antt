@@ -27,21 +27,21 @@ room : (c : tie.In-loop Inv-loop μ-loop) → c .before .loop .next + length (re
 room c = omega (arith, c .before .loop .inv .1, c .before .loop .inv .2, c .before .before .before .before .pre)
 
 -- and for the byte behind the number
-inside : (c : tie.After-slice-known2 Inv-loop μ-loop) → c .before .before .decimal .result < length (c .before .before .decimal .last .1 .0)
-inside c = let d = c .before .before .decimal in
+inside : (c : tie.After-slice-known2 Inv-loop μ-loop) → c .before .before .put .result < length (c .before .before .put .last .1 .0)
+inside c = let d = c .before .before .put in
     omega (arith, d .kept .1 .0, d .ensures .0, room (c .before .before .before .before .before), next-number (c .before .before .before .before .before))
 
 loop-holds : tie.Need-loop-holds Inv-loop μ-loop
 loop-holds c = (omega arith, refl, refl, refl)
 
-mul-decimal : tie.Need-mul-decimal Inv-loop μ-loop
-mul-decimal c = omega (arith, c .before .before .before .before .pre)
+mul-put : tie.Need-mul-put Inv-loop μ-loop
+mul-put c = omega (arith, c .before .before .before .before .pre)
 
-shared-slice-read-decimal : tie.Need-shared-slice-read-decimal Inv-loop μ-loop
-shared-slice-read-decimal c = omega arith
+shared-slice-read-put : tie.Need-shared-slice-read-put Inv-loop μ-loop
+shared-slice-read-put c = omega arith
 
-decimal-requires : tie.Need-decimal-requires Inv-loop μ-loop
-decimal-requires c κs = omega (arith, room (c .before .before), next-number (c .before .before))
+put-requires : tie.Need-put-requires Inv-loop μ-loop
+put-requires c κs = omega (arith, room (c .before .before), next-number (c .before .before))
 
 add-i : tie.Need-add-i Inv-loop μ-loop
 add-i c = omega arith
@@ -62,7 +62,7 @@ loop-less : tie.Need-loop-less Inv-loop μ-loop
 loop-less c = omega arith
 
 loop-again : tie.Need-loop-again Inv-loop μ-loop
-loop-again c = let d = c .before .before .before .decimal in
+loop-again c = let d = c .before .before .before .put in
     let l = c .before .before .before .before .before .before .before .loop in
     let turn = c .before .before .before .before .before .before in
     (omega arith, simp length-set (d .kept .1 .0 ∙ l .inv .1), omega (arith, d .ensures .0, l .inv .2, next-number turn), rw (d .ensures .0, d .ensures .1, c .byte-behind .ensures) (written-rest _ (l .i) (turn .loop-test .taken) (l .next) (l .out) (room turn) ∙ l .inv .3))
@@ -82,9 +82,9 @@ put-line-spec =
     Inv-loop
     μ-loop
     loop-holds
-    mul-decimal
-    shared-slice-read-decimal
-    decimal-requires
+    mul-put
+    shared-slice-read-put
+    put-requires
     add-i
     sub-byte-behind
     byte-behind-requires

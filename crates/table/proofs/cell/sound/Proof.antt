@@ -6,14 +6,14 @@ use lib.ListN.{getD}
 use borrow.Author.Count.{below-more}
 use native.Mathlib.Omega.{arith}
 use borrow.Author.Tests.{not-true, not-false}
-use Rattle.table.specs.Code.{boardSound}
+use Rattle.table.specs.Code.{copySound}
 use Rattle.table.proofs.ReadyLaws.{main-in, row-in, copy-in, copy-small, masks-in}
-use Rattle.table.proofs.SoundLaws.{masks-below, unsound-masks, unsound-board, all-boards}
+use Rattle.table.proofs.SoundLaws.{masks-below, unsound-masks, unsound-copy, all-boards}
 use Rattle.table.proofs.cell.sound.Statement.{statement}
 use Rattle.table.proofs.cell.sound.Tie as tie
 
 abbrev Inv-loop : tie.InvT-loop
-Inv-loop rule boards cells main copies masks cell m now board₀ board = (board ≤ boards) × ((p : ℕ) → p < board → boardSound rule (m .live) (m .dirty) (m .lock) (getD copies (cell * boards + p) 0) now p ≡ true)
+Inv-loop rule boards cells main copies masks cell m now board₀ board = (board ≤ boards) × ((p : ℕ) → p < board → copySound rule (m .live) (getD copies (cell * boards + p) 0) now p ≡ true)
 
 abbrev μ-loop : tie.MeasureT-loop
 μ-loop rule boards cells main copies masks cell m now board₀ board = boards - board
@@ -48,11 +48,11 @@ mul-copy-2 c = omega (arith, small c)
 shared-slice-read-copy : tie.Need-shared-slice-read-copy Inv-loop μ-loop
 shared-slice-read-copy c = copy-in _ _ _ _ (c .before .before .before .before .before .before .before .before .before .before .pre .1) _ (c .before .loop-test .taken)
 
-board-sound-requires : tie.Need-board-sound-requires Inv-loop μ-loop
-board-sound-requires c κs = omega (arith, c .before .before .before .before .before .before .before .before .before .before .pre .1 .few-boards)
+copy-sound-requires : tie.Need-copy-sound-requires Inv-loop μ-loop
+copy-sound-requires c κs = omega (arith, c .before .before .before .before .before .before .before .before .before .before .pre .1 .few-boards)
 
 returns-2 : tie.Need-returns-2 Inv-loop μ-loop
-returns-2 c = sym (unsound-board _ _ _ _ _ (c .before .before .before .before .before .before .before .before .before .before .before .before .pre .0) (c .before .before .before .before .before .before .before .before .before .before .before .before .pre .1) _ _ _ (c .before .before .before .before .before .before .before .before .masks-at .ensures) (sym (c .before .before .before .before .before .before .before .masks-sound .ensures) ∙ not-false _ (c .before .before .before .before .before .before .if1 .left)) _ (c .before .before .before .before .before .current .ensures) _ (c .before .before .before .loop-test .taken) (sym (c .before .board-sound .ensures) ∙ not-true _ (c .if2 .taken)))
+returns-2 c = sym (unsound-copy _ _ _ _ _ (c .before .before .before .before .before .before .before .before .before .before .before .before .pre .0) (c .before .before .before .before .before .before .before .before .before .before .before .before .pre .1) _ _ _ (c .before .before .before .before .before .before .before .before .masks-at .ensures) (sym (c .before .before .before .before .before .before .before .masks-sound .ensures) ∙ not-false _ (c .before .before .before .before .before .before .if1 .left)) _ (c .before .before .before .before .before .current .ensures) _ (c .before .before .before .loop-test .taken) (sym (c .before .copy-sound .ensures) ∙ not-true _ (c .if2 .taken)))
 
 add-board : tie.Need-add-board Inv-loop μ-loop
 add-board c = omega arith
@@ -61,7 +61,7 @@ loop-less : tie.Need-loop-less Inv-loop μ-loop
 loop-less c = omega arith
 
 loop-again : tie.Need-loop-again Inv-loop μ-loop
-loop-again c = (omega arith, below-more _ _ (c .before .before .before .before .loop .inv .1) (sym (c .before .board-sound .ensures) ∙ not-false _ (c .if2 .left)))
+loop-again c = (omega arith, below-more _ _ (c .before .before .before .before .loop .inv .1) (sym (c .before .copy-sound .ensures) ∙ not-false _ (c .if2 .left)))
 
 returns-3 : tie.Need-returns-3 Inv-loop μ-loop
 returns-3 c = let e : c .before .before .before .before .before .before .before .before .before .args .boards ≤ c .before .loop .board = c .loop-test .left in
@@ -82,7 +82,7 @@ sound-spec =
     add-copy
     mul-copy-2
     shared-slice-read-copy
-    board-sound-requires
+    copy-sound-requires
     returns-2
     add-board
     loop-less
