@@ -10,7 +10,7 @@ use lib.Count.{ones}
 use borrow.Author.Tests.{eq-eqb, eqb-true, eqb-false, ltb-true, lt-ltb, not-true}
 use Rattle.protocol.specs.Masks.{hasBoard, hasAnother, lowestBoard}
 use Rattle.protocol.specs.Soundness.{everyBoard}
-use Rattle.protocol.proofs.Booleans.{clash, not-so, and-left, and-right, and-both, either, boards-imply}
+use Rattle.protocol.proofs.Booleans.{clash, not-so, and-left, and-right, and-both, either, board-at, boards-imply}
 use Rattle.protocol.proofs.MaskLaws.{same-mask, has-none, has-lowest, high-of-lt, another-false, ones-same}
 use Rattle.protocol.proofs.BoundedMasks.{below}
 use Rattle.table.specs.Code.{within}
