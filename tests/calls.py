@@ -28,7 +28,7 @@ CALLS = {
     "fresh": ((64, 64), (32, *TABLE), model.fresh),
     "check": ((8, 64, 64), TABLE, model.check),
     "step": ((8, 64, 64, 8, 8, 8, 16, 32), TABLE, model.step_lent),
-    "sizes_in": ((), (8,), model.sizes_in),
+    "head_of": ((), (8,), model.head_of),
     "read": ((), (8, 32), model.read),
     "write": ((8, 64, 64), (32, 8, 8), model.write),
     "run": ((), (8, *TABLE, 8, 32), model.run_lent),

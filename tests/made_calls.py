@@ -184,7 +184,7 @@ def counted(words):
 
 def file_text(file):
     """A session file: the head, the starting values, the records."""
-    n = 4 * model.sizes_in(file)[1]
+    n = 4 * model.head_of(file)[2]
     parts = grouped(file[:9], 9), grouped(file[9:9 + n], 4), grouped(file[9 + n:], 9)
     return " ".join(p for p in parts if p)
 
@@ -548,9 +548,17 @@ def expect(said, faults):
 
 
 def files():
-    about("The sizes that a file's first nine bytes say.")
+    about("What a file's first nine bytes say: files of 0 to 13 bytes.")
     for i in range(40):
-        call("sizes_in", (), [file_text([R.choice((0, 1, 2, 16, 67, 83, 255)) for _ in range(i % 14)])])
+        call("head_of", (), [file_text([R.choice((0, 1, 2, 16, 67, 83, 255)) for _ in range(i % 14)])])
+
+    about("The same with rules, P and N in and out of range, ended before the records begin, behind a whole one and within one.")
+    for rule, boards, n in ((0, 1, 1), (1, 2, 2), (2, 16, 3), (3, 17, 255), (4, 0, 256), (5, 3, 257), (4, 16, 512), (128, 4, 513),
+                            (255, 255, 24000)):
+        file = list(session(rule, boards, [7] * n, [record(WRITE, 1, 0, 2, TOP)] * 3))
+        begin = 9 + 4 * n
+        for end in (10, begin - 4, begin - 1, *(begin + k for k in (0, 1, 8, 9, 10, 17, 18, 19, 26, 27))):
+            call("head_of", (), [file_text(file[:end])])
 
     about("Reading: each refusal alone and before a later one; the starting slice of wrong length.")
     for faults in faults_to_try("body"):
@@ -648,6 +656,7 @@ def large():
     for records, rule in product(([record(MTOC, 15, 0, 511)] + [record(READ, 15, 0, 511)] * 4095,
                                   [record(WRITE, 0, 0, 511, TOP)] * 4097), (0, 4)):
         file = file_text(list(session(rule, 16, [8] * 511 + [TOP], records)))
+        call("head_of", (), [file])
         call("read", (), [file, "512*5"])
         call("run", (), [file, *table_texts(16, full), "4097*99", "4096*98"])
         call("run", (), [file, *table_texts(16, full), "4096*99", "4095*98"])
@@ -668,13 +677,13 @@ def no_calls():
         "step 0 1 1 0 0 0 0 0 | 7 | 0 |", "step 0 1 1 0 0 0 0 0" + cell + " 0 |", "step 0 1 1 0 0 0 0 0 | 7 | 0 | 0 0 0",
         "check 256 1 1" + cell, "check 0 1 1 | %d | 0 | 0 0 0 |" % 2 ** 32, "check 0 1 1 | 7 | %d | 0 0 0 |" % 2 ** 32,
         "check 0 1 1 | 7 | 0 | 0 0 65536 |", "check 0 1 1 | 8301*7 | 0 | 0 0 0 |", "check 0 1 1 | 7 | 0 | 2101*0 |",
-        "check 0 1 1 | 7 | 0 | 701*0.0.0 |", "sizes_in | 256 |", "sizes_in | 100001*0 |", "sizes_in", "sizes_in | 0 | 0 |",
+        "check 0 1 1 | 7 | 0 | 701*0.0.0 |", "head_of | 256 |", "head_of | 100001*0 |", "head_of", "head_of | 0 | 0 |",
         "write 256 1 1 | 7 | | 13*0 |", "write 0 1 1 | 7 | 256 | 13*0 |", "read | 0 |", "list | 0 | 256 |", "run | 0 |",
     ])
     about("Calls at the same limits.")
     MADE.extend([
         "check 255 1 1 | %d | 0 | 65535 0 0 |" % TOP, "check 0 1 1 | 8300*7 | 0 | 0 0 0 |", "check 0 1 1 | 7 | 0 | 2100*0 |",
-        "check 0 1 1 | 7 | 8300*%d | 700*0.0.0 |" % TOP, "sizes_in | 100000*255 |", "list | | 100000*0 |",
+        "check 0 1 1 | 7 | 8300*%d | 700*0.0.0 |" % TOP, "head_of | 100000*255 |", "head_of | 100000*0 |", "list | | 100000*0 |",
         "step 255 %d %d 255 255 255 65535 %d | %d | %d | 65535 |" % (HUGE, HUGE, TOP, TOP, TOP),
     ])
 

@@ -50,6 +50,9 @@ def count(lines):
             said[answer, ""] += 1
             continue
         name, numbers, lent = calls.parse(line)
+        if name == "head_of":
+            said[name, ended(len(lent[0]), *map(int, answer.split(" ")[3:]))] += 1
+            continue
         said[name, answer.split(" ")[0 if name != "check" or "refused" not in answer else 1]] += 1
         if name == "list" and answer[0] == "0":
             said["list of a refused file", str(model.read_file(bytes(lent[0]))[0])] += 1
@@ -93,6 +96,15 @@ def count(lines):
     return said, held, edges
 
 
+def ended(length, begin, records):
+    """Where a file of this length ends, by what head_of answers."""
+    if length < 9:
+        return "in the head"
+    if length < begin:
+        return "before the records"
+    return "in a record" if length > begin + 9 * records else "behind whole records"
+
+
 def alone(c, rule):
     """The one condition of the rule that fails, or None; the bits by mask."""
     asked = [f for f in c.failing() if rule in model.CONDITIONS[f]]
@@ -106,7 +118,8 @@ def alone(c, rule):
 
 MUST = {"step": range(17), "fresh": (0, 1), "check": ("sound", "unsound", 1, 2), "in_range": (0, 1), "sizes_good": (0, 1),
         "read": (0, 1, 2, 17, 18, 19), "write": (0, 1, 2, 19, 20), "run": (0, 1, 2, 17, 18, 19, 20), "list": (0, 20),
-        "list of a refused file": (1, 2, 17, 18, 19), "run that leaves stale copies": (True,)}
+        "list of a refused file": (1, 2, 17, 18, 19), "run that leaves stale copies": (True,),
+        "head_of": ("in the head", "before the records", "behind whole records", "in a record")}
 
 
 def counts(lines):
@@ -130,7 +143,6 @@ def counts(lines):
     for name, numbers in MUST.items():
         got = [(k, bar("%s answering %s" % (name, k), said[name, str(k)], 20)) for k in numbers]
         text.append("| %s | %s |" % (name, ", ".join("%s: %d" % x for x in got)))
-    text.append("| sizes_in | %d |" % bar("sizes_in", total["sizes_in"], 20))
 
     by_rule = " | rule 0 | rule 1 | rule 2 | rule 3 | rule 4 |\n|---|---|---|---|---|---|"
     text.append("\n| Steps on sound cells, by action and answer" + by_rule)

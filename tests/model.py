@@ -300,9 +300,13 @@ def step_lent(rule, boards, n, code, p, q, cell, value, main, copies, masks):
     return answer, got
 
 
-def sizes_in(file):
-    """P and N as the first nine bytes say them."""
-    return (file[6], number(file[7:9])) if len(file) >= 9 else (0, 0)
+def head_of(file):
+    """(rule, P, N, where the records begin, whole records behind it) as the first nine bytes say; nothing is refused."""
+    if len(file) < 9:
+        return 0, 0, 0, 0, 0
+    n = number(file[7:9])
+    begin = 9 + 4 * n
+    return file[5], file[6], n, begin, len(file[begin:]) // 9
 
 
 def read(file, starting):

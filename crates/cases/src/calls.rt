@@ -32,7 +32,7 @@ const CHECK: u8 = RULE + SIZES + TABLE;
 
 const STEP: u8 = RULE + SIZES + ACTION + TABLE;
 
-const SIZES_IN: u8 = FILE;
+const HEAD_OF: u8 = FILE;
 
 const READ: u8 = FILE + VALUES;
 
@@ -66,7 +66,7 @@ fn parts(name: &[u8]) -> u8 {
         | if_named(name, b"fresh", FRESH)
         | if_named(name, b"check", CHECK)
         | if_named(name, b"step", STEP)
-        | if_named(name, b"sizes_in", SIZES_IN)
+        | if_named(name, b"head_of", HEAD_OF)
         | if_named(name, b"read", READ)
         | if_named(name, b"write", WRITE)
         | if_named(name, b"run", RUN)
@@ -110,7 +110,7 @@ fn ask(
         FRESH => print::answer(table::fresh(a.boards, a.cells, starting, main, copies, masks)),
         CHECK => print::found(table::check(a.rule, a.boards, a.cells, main, copies, masks)),
         STEP => print::answer(table::step(a.rule, a.boards, a.cells, main, copies, masks, a.act)),
-        SIZES_IN => print::sizes(sessions::sizes_in(file)),
+        HEAD_OF => print::head(sessions::head_of(file)),
         READ => read_and_tell(file, values, 0),
         WRITE => print::answer(sessions::write(a.rule, a.boards, a.cells, starting, file, out)),
         RUN => print::report(sessions::run(file, main, copies, masks, out, values)),

@@ -30,9 +30,12 @@ pub fn found(c: table::Checked) {
     }
 }
 
-pub fn sizes(s: sessions::Sizes) {
-    first(s.boards);
-    next(s.cells);
+pub fn head(h: sessions::Head) {
+    first(h.rule as usize);
+    next(h.boards);
+    next(h.cells);
+    next(h.from);
+    next(h.count);
 }
 
 pub fn report(r: sessions::Report) {
