@@ -13,7 +13,7 @@ use lib.Seq.{length-take-le, take-all, getD-take}
 use Rattle.protocol.specs.Slices.{inRange}
 use Rattle.protocol.proofs.Booleans.{clash, either, or-left}
 use Rattle.protocol.proofs.InWords.{range-exactly}
-use Rattle.sessions.specs.File.{le16, marked, versionIn, ruleIn, boardsIn, cellsIn}
+use Rattle.sessions.specs.File.{le16, marked, versionIn, ruleIn, boardsIn, cellsIn, recordsAt}
 use Rattle.sessions.specs.FileRefusals.{headRefusals, bodyRefusals, recordsBad, bodyBad, readRefusals}
 use Rattle.sessions.proofs.AcceptedLaws.{readable}
 use Rattle.listing.specs.Listing.{refusalOf, listingOf}
@@ -29,12 +29,12 @@ module _ (file : List ℕ) (long : 38922 ≤ length file) where
   -- the first nine bytes and 512 starting values are 2,057
   body-too-long : cellsIn file ≤ 512 → bodyBad file ≡ true
   unfolding bodyBad
-  body-too-long c = rw (le-ltb (length file) (9 + 4 * cellsIn file) (omega arith)) (too-many (length file - (9 + 4 * cellsIn file)) (omega arith))
+  body-too-long c = rw (le-ltb (length file) (recordsAt (cellsIn file)) (omega arith)) (too-many (length file - (recordsAt (cellsIn file))) (omega arith))
 
   refused : refusalOf file ≢ 0
   refused e =
       let y = readable file (cellsIn file) .0 e in
-      clash (too-many (length file - (9 + 4 * cellsIn file)) (omega (arith, y .sizes .few-cells))) (y .recorded)
+      clash (too-many (length file - (recordsAt (cellsIn file))) (omega (arith, y .sizes .few-cells))) (y .recorded)
 
 -- ---- a file, and what is left of it
 

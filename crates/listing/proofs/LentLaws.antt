@@ -15,7 +15,7 @@ use Rattle.protocol.specs.First.{firstNumber}
 use Rattle.protocol.specs.Slices.{Slice, main, copies, masks, Table, tableOf, width, inRange, sizesGood}
 use Rattle.protocol.proofs.Booleans.{clash, or-right}
 use Rattle.protocol.proofs.InWords.{range-exactly, sizes-exactly}
-use Rattle.sessions.specs.File.{marked, versionIn, ruleIn, boardsIn, cellsIn, actionAt}
+use Rattle.sessions.specs.File.{marked, versionIn, ruleIn, boardsIn, cellsIn, actionAt, recordsAt}
 use Rattle.sessions.specs.FileRefusals.{headRefusals, bodyRefusals, recordsBad, bodyBad, readRefusals, countIn, runRefusals}
 use Rattle.sessions.specs.Run.{lineOfRecord}
 use Rattle.sessions.specs.Statements.{HeadOf, Runs}
@@ -43,8 +43,8 @@ same-order short mark version sizes ruled false room h = rw (h refl)
 few-in : (file : List ℕ) → bodyBad file ≡ false → countIn file ≤ 4096
 unfolding bodyBad
 few-in file e =
-    let n = length file - (9 + 4 * cellsIn file) in
-    few-records n (or-right (ltb (length file) (9 + 4 * cellsIn file)) (recordsBad n) e)
+    let n = length file - (recordsAt (cellsIn file)) in
+    few-records n (or-right (ltb (length file) (recordsAt (cellsIn file))) (recordsBad n) e)
 
 module _ (file : List ℕ) (t : Table) (numbers values : ℕ) (fits : Sized file t) (a : 4096 ≤ numbers) (b : 4096 ≤ values) where
   enough : bodyBad file ≡ false → (ltb numbers (countIn file) || ltb values (countIn file)) ≡ false
@@ -96,9 +96,9 @@ few-copies file boards cells l = omega (arith, mul-le-mul-left cells (l .few-boa
 
 module _ (file : List ℕ) (t : Table) (numbers values : List ℕ) (r : Report) (t′ : Table) (numbers′ values′ : List ℕ) (s : Runs file t numbers values r t′ numbers′ values′) (ok : r .number ≡ 0)
     (e : refusalOf file ≡ 0) (a : 4096 ≤ length numbers′) (b : 4096 ≤ length values′) where
-  code-of : (i : ℕ) → i < countIn file → getD file (9 + 4 * cellsIn file + 9 * i) 0 ≡ lineOfRecord file i .action .code
+  code-of : (i : ℕ) → i < countIn file → getD file (recordsAt (cellsIn file) + 9 * i) 0 ≡ lineOfRecord file i .action .code
   unfolding actionAt
-  code-of i h = sym (getD-drop (9 + 4 * cellsIn file) file (9 * i) 0) ∙ sym (ap (λ (x : Action). x .code) (its-action file i h))
+  code-of i h = sym (getD-drop (recordsAt (cellsIn file)) file (9 * i) 0) ∙ sym (ap (λ (x : Action). x .code) (its-action file i h))
 
   number-of : (i : ℕ) → i < countIn file → getD numbers′ i 0 ≡ lineOfRecord file i .told .number
   number-of i h = in-slice file t numbers values r t′ numbers′ values′ s ok (λ l. l .told .number) numbers numbers′ (s .numbers-are) i h
@@ -109,7 +109,7 @@ module _ (file : List ℕ) (t : Table) (numbers values : List ℕ) (r : Report) 
   pub run-told : RunTold file numbers′ values′ (r .accepted) (r .stale)
   run-told =
       let y = readable file (cellsIn file) .0 e in
-      let few : countIn file ≤ 4096 = few-records (length file - (9 + 4 * cellsIn file)) (y .recorded) in
+      let few : countIn file ≤ 4096 = few-records (length file - (recordsAt (cellsIn file))) (y .recorded) in
       record {
         not-refused = e;
         headed = y .headed-whole;

@@ -8,7 +8,7 @@ use borrow.Author.Tests.{le-ltb}
 use lib.ListN.{length, length-append}
 use Rattle.protocol.specs.Runs.{Line}
 use Rattle.protocol.proofs.SmallNumbers.{SmallLines}
-use Rattle.sessions.specs.File.{Below, ruleIn, boardsIn, cellsIn}
+use Rattle.sessions.specs.File.{Below, ruleIn, boardsIn, cellsIn, recordsAt}
 use Rattle.sessions.specs.FileRefusals.{countIn}
 use Rattle.sessions.specs.Run.{logOf, acceptedIn, staleOf}
 use Rattle.sessions.proofs.AcceptedLaws.{readable, few-records}
@@ -47,7 +47,7 @@ pub run-has-room : (file : List ℕ) → Below 256 file → refusalOf file ≡ 0
 run-has-room file b e =
     let y = readable file (cellsIn file) .0 e in
     let z = y .sizes in
-    let few : countIn file ≤ 4096 = omega (arith, few-records (length file - (9 + 4 * cellsIn file)) (y .recorded)) in
+    let few : countIn file ≤ 4096 = omega (arith, few-records (length file - (recordsAt (cellsIn file))) (y .recorded)) in
     let accepted : acceptedIn (logOf file) ≤ 4096 = omega (arith, accepted-at-most (logOf file), logged file) in
     let stale : staleOf file ≤ 8192 = omega (arith, stale-at-most file, mul-le-mul-left (cellsIn file) (z .few-boards), z .few-cells) in
     let first = length-three (ruleIn file) (boardsIn file) (cellsIn file) in

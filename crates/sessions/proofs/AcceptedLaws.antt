@@ -13,7 +13,7 @@ use Rattle.protocol.specs.First.{Refusal, firstNumber, NoneHolds}
 use Rattle.protocol.proofs.Booleans.{or-left, or-right}
 use Rattle.protocol.proofs.FirstLaws.{Refuse, refuse-of, first-accepted, none-number, first-number}
 use Rattle.protocol.proofs.InWords.{range-exactly, sizes-exactly}
-use Rattle.sessions.specs.File.{marked, versionIn, ruleIn, boardsIn, cellsIn}
+use Rattle.sessions.specs.File.{marked, versionIn, ruleIn, boardsIn, cellsIn, recordsAt}
 use Rattle.sessions.specs.FileRefusals.{headRefusals, bodyRefusals, recordsBad, bodyBad, readRefusals, writeRefusals, countIn, runRefusals}
 
 -- no refusal holds exactly where the number is 0
@@ -71,7 +71,7 @@ pub record Writable (rule boards cells starting records room : ℕ) : Type 0 whe
   pub sizes : GoodSizes boards cells starting
   pub ruled : rule ≤ 4
   pub recorded : recordsBad records ≡ false
-  pub roomy : 9 + 4 * cells + records ≤ room
+  pub roomy : recordsAt cells + records ≤ room
 
 pub writable : (rule boards cells starting records room : ℕ) → (firstNumber (writeRefusals rule boards cells starting records room) ≡ 0) ↔ Writable rule boards cells starting records room
 unfolding writeRefusals bodyRefusals
@@ -90,16 +90,16 @@ pub record Readable (file : List ℕ) (lent : ℕ) : Type 0 where
   pub version-1 : versionIn file ≡ 1
   pub sizes : GoodSizes (boardsIn file) (cellsIn file) lent
   pub ruled : ruleIn file ≤ 4
-  pub valued : 9 + 4 * cellsIn file ≤ length file
-  pub recorded : recordsBad (length file - (9 + 4 * cellsIn file)) ≡ false
+  pub valued : recordsAt (cellsIn file) ≤ length file
+  pub recorded : recordsBad (length file - (recordsAt (cellsIn file))) ≡ false
 
 pub readable : (file : List ℕ) (lent : ℕ) → (firstNumber (readRefusals file lent) ≡ 0) ↔ Readable file lent
 unfolding readRefusals headRefusals bodyRefusals bodyBad
 readable file lent =
     let k = none-refuses (readRefusals file lent) (all-read file lent) in
     let g = good-sizes (boardsIn file) (cellsIn file) lent in
-    let short = ltb (length file) (9 + 4 * cellsIn file) in
-    let bad = recordsBad (length file - (9 + 4 * cellsIn file)) in (
+    let short = ltb (length file) (recordsAt (cellsIn file)) in
+    let bad = recordsBad (length file - (recordsAt (cellsIn file))) in (
       (λ e.
           let f = k .0 e in
           let b = f .1 .1 .1 .1 .1 .0 in
@@ -131,8 +131,8 @@ pub runnable : (file : List ℕ) (t : Table) (numbers values : ℕ) → firstNum
 unfolding runRefusals headRefusals bodyRefusals bodyBad
 runnable file t numbers values e =
     let f = none-refuses (runRefusals file t numbers values) (all-run file t numbers values) .0 e in
-    let short = ltb (length file) (9 + 4 * cellsIn file) in
-    let bad = recordsBad (length file - (9 + 4 * cellsIn file)) in
+    let short = ltb (length file) (recordsAt (cellsIn file)) in
+    let bad = recordsBad (length file - (recordsAt (cellsIn file))) in
     let b = f .1 .1 .1 .1 .1 .0 in
     let good = not-false _ (f .1 .1 .1 .0) in
     let r = sizes-exactly (boardsIn file) (cellsIn file) t .0 good .0 in

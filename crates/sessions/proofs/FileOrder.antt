@@ -12,7 +12,7 @@ use Rattle.protocol.specs.declared.Answer.{Answer}
 use Rattle.protocol.specs.Slices.{Table, inRange, sizesGood}
 use Rattle.protocol.proofs.Booleans.{clash, and-left, and-right, and-both, or-left, or-right}
 use Rattle.protocol.proofs.InWords.{range-exactly, sizes-exactly}
-use Rattle.sessions.specs.File.{le16, marked, versionIn, ruleIn, boardsIn, cellsIn}
+use Rattle.sessions.specs.File.{le16, marked, versionIn, ruleIn, boardsIn, cellsIn, recordsAt}
 use Rattle.sessions.specs.FileRefusals.{headRefusals, bodyRefusals, recordsBad, bodyBad, readRefusals, writeRefusals, countIn, runRefusals}
 use Rattle.sessions.specs.FileWords.{InOrder, MarkBytes, VersionBytes, ruleByte, boardsByte, cellsBytes, Limits, Lengths, WholeRecords, Room}
 use Rattle.sessions.specs.declared.Report.{Report}
@@ -169,10 +169,10 @@ module _ (file : List ℕ) where
   unfolding le16
   version-exactly = ((λ e. let v = eqb-true (versionIn file) 1 e in (omega (arith, v), omega (arith, v))), λ v. eq-eqb (versionIn file) 1 (omega (arith, v .0, v .1)))
 
-  body-exactly : (bodyBad file ≡ false) ↔ WholeRecords (9 + 4 * cellsIn file) (length file)
+  body-exactly : (bodyBad file ≡ false) ↔ WholeRecords (recordsAt (cellsIn file)) (length file)
   unfolding bodyBad
   body-exactly =
-      let from = 9 + 4 * cellsIn file in
+      let from = recordsAt (cellsIn file) in
       let k = neither (ltb (length file) from) (recordsBad (length file - from)) (atMost from (length file) .exactly) (whole-exactly (length file - from)) in (
         (λ e. let f = k .0 e in (f .1 .0, f .1 .1, omega (arith, f .0, f .1 .2))),
         λ w. k .1 (omega (arith, w .2), (w .0, w .1, omega (arith, w .2))),
@@ -185,7 +185,7 @@ module _ (file : List ℕ) where
   version = record { refuses = not (eqb (versionIn file) 1); holds = VersionBytes file; exactly = wanted (eqb (versionIn file) 1) version-exactly }
 
   abbrev body : Asked
-  body = record { refuses = bodyBad file; holds = WholeRecords (9 + 4 * cellsIn file) (length file); exactly = body-exactly }
+  body = record { refuses = bodyBad file; holds = WholeRecords (recordsAt (cellsIn file)) (length file); exactly = body-exactly }
 
 -- ---- the three functions
 
@@ -200,7 +200,7 @@ module _ (rule boards cells : ℕ) (starting records old : List ℕ) (r : Answer
   pub write-answers : InOrder (r .number) (Unit {0}) (Unit {0}) (Unit {0}) (Limits boards cells × (length starting ≡ cells))
       (rule ≤ 4) (WholeRecords 0 (length records)) (9 + 4 * cells + length records ≤ length old)
   unfolding writeRefusals bodyRefusals
-  write-answers = rw (s .number-is) (in-order nothing nothing nothing (startingSizes boards cells (length starting)) (atMost rule 4) (wholeRecords (length records)) (atMost (9 + 4 * cells + length records) (length old)))
+  write-answers = rw (s .number-is) (in-order nothing nothing nothing (startingSizes boards cells (length starting)) (atMost rule 4) (wholeRecords (length records)) (atMost (recordsAt cells + length records) (length old)))
 
 module _ (file : List ℕ) (t : Table) (numbers values : List ℕ) (r : Report) (t′ : Table) (numbers′ values′ : List ℕ) (s : Runs file t numbers values r t′ numbers′ values′) where
   pub run-answers : InOrder (r .number) (9 ≤ length file) (MarkBytes file) (VersionBytes file) (Limits (boardsByte file) (cellsBytes file) × Lengths (boardsByte file) (cellsBytes file) t)

@@ -16,7 +16,7 @@ use Rattle.protocol.proofs.InWords.{sizes-exactly}
 use Rattle.protocol.proofs.Demand3Order.{end-sizes}
 use Rattle.table.specs.Statements.{Holds, Freshens}
 use Rattle.table.proofs.Promises.{held, fresh-gives}
-use Rattle.sessions.specs.File.{ruleIn, boardsIn, cellsIn, startingIn, recordsIn, actionsIn}
+use Rattle.sessions.specs.File.{ruleIn, boardsIn, cellsIn, startingIn, recordsIn, actionsIn, recordsAt}
 use Rattle.sessions.specs.FileRefusals.{countIn, runRefusals}
 use Rattle.sessions.specs.Run.{actionsOf, logOf, endOf, staleIn, staleOf}
 use Rattle.sessions.specs.declared.Head.{Head}
@@ -29,11 +29,11 @@ use Rattle.sessions.proofs.RunLaws.{length-actions}
 
 module _ (file : List ℕ) (t : Table) (numbers values : List ℕ) (ok : Runnable file t (length numbers) (length values)) where
   few-in : length (recordsIn file) / 9 ≡ countIn file
-  few-in = rw (length-drop (9 + 4 * cellsIn file) file)
+  few-in = rw (length-drop (recordsAt (cellsIn file)) file)
 
   pub prepared : (n : ℕ) (records latest : List ℕ) → n ≡ cellsIn file → records ≡ recordsIn file → length latest ≡ n → Prepared n records numbers values latest
   prepared n records latest e d h = record {
-    few = rw (d, few-in) (few-records (length file - (9 + 4 * cellsIn file)) (ok .readable-too .recorded));
+    few = rw (d, few-in) (few-records (length file - (recordsAt (cellsIn file))) (ok .readable-too .recorded));
     room-numbers = rw (d, few-in) (ok .roomy-numbers);
     room-values = rw (d, few-in) (ok .roomy-values);
     room-latest = omega arith;

@@ -10,7 +10,7 @@ use Rattle.protocol.specs.Slices.{Table}
 use Rattle.protocol.specs.Step.{tableAfter}
 use Rattle.protocol.specs.Fresh.{freshTable}
 use Rattle.protocol.specs.Runs.{Line, logBy, log}
-use Rattle.sessions.specs.File.{ruleIn, boardsIn, cellsIn, startingIn, recordsIn, actionAt, actions}
+use Rattle.sessions.specs.File.{ruleIn, boardsIn, cellsIn, startingIn, recordsIn, actionAt, actions, recordsAt}
 use Rattle.sessions.specs.FileRefusals.{countIn}
 use Rattle.sessions.specs.Run.{actionsOf, logOf, noLine, lineOfRecord, recordOf}
 use Rattle.sessions.specs.declared.Report.{Report}
@@ -42,13 +42,13 @@ module _ (file : List ℕ) where
   logged =
       length-log (ruleIn file) (boardsIn file) (cellsIn file) (freshTable (boardsIn file) (startingIn file)) (actionsOf file)
       ∙ length-actions (recordsIn file) 0 (length (recordsIn file) / 9)
-      ∙ rw (length-drop (9 + 4 * cellsIn file) file)
+      ∙ rw (length-drop (recordsAt (cellsIn file)) file)
 
   pub its-action : (i : ℕ) → i < countIn file → lineOfRecord file i .action ≡ recordOf file i
   unfolding lineOfRecord logOf
   its-action i h =
       let e : 0 + 9 * i ≡ 9 * i = omega arith in
-      let l : length (recordsIn file) / 9 ≡ countIn file = rw (length-drop (9 + 4 * cellsIn file) file) in
+      let l : length (recordsIn file) / 9 ≡ countIn file = rw (length-drop (recordsAt (cellsIn file)) file) in
       rw e at (action-logged (ruleIn file) (boardsIn file) (cellsIn file) (freshTable (boardsIn file) (startingIn file)) (recordsIn file) 0 (length (recordsIn file) / 9) i (rw l h))
 
   -- the log, cut before a line

@@ -10,7 +10,7 @@ use borrow.Author.Tests.{ltb-false, lt-ltb, le-ltb}
 use Rattle.protocol.specs.First.{Refusal, when, firstNumber, NoneHolds}
 use Rattle.protocol.specs.Slices.{Table, every, inRange, sizesGood}
 use Rattle.protocol.proofs.FirstLaws.{Refuse, refuse-of}
-use Rattle.sessions.specs.File.{boardsIn, cellsIn, ruleIn}
+use Rattle.sessions.specs.File.{boardsIn, cellsIn, ruleIn, recordsAt}
 use Rattle.sessions.specs.FileRefusals.{headRefusals, bodyRefusals, recordsBad, bodyBad, readRefusals, countIn, runRefusals, writeRefusals}
 use Rattle.sessions.specs.declared.Head.{Head}
 use Rattle.sessions.proofs.BytesLaws.{Says}
@@ -103,7 +103,7 @@ module _ (rule boards cells starting records : ℕ) (range bad : Bool) (r : rang
 
   module _ (room : ℕ) where
     abbrev roomy : List Refusal
-    roomy = when 20 (ltb room (9 + 4 * cells + records)) ∷ []
+    roomy = when 20 (ltb room (recordsAt cells + records)) ∷ []
 
     is-tested : firstNumber (writeRefusals rule boards cells starting records room) ≡ firstNumber (tested ++ roomy)
     unfolding writeRefusals
@@ -114,11 +114,11 @@ module _ (rule boards cells starting records : ℕ) (range bad : Bool) (r : rang
 
     -- past the body the room answers
     module _ (e : firstNumber tested ≡ 0) where
-      write-room : cond (ltb room (9 + 4 * cells + records)) 20 0 ≡ firstNumber (writeRefusals rule boards cells starting records room)
+      write-room : cond (ltb room (recordsAt cells + records)) 20 0 ≡ firstNumber (writeRefusals rule boards cells starting records room)
       write-room = sym (is-tested ∙ passed tested roomy (bodies _ _ _) e)
 
-      pub write-short : room < 9 + 4 * cells + records → 20 ≡ firstNumber (writeRefusals rule boards cells starting records room)
-      write-short h = rw (lt-ltb room (9 + 4 * cells + records) h) at write-room
+      pub write-short : room < recordsAt cells + records → 20 ≡ firstNumber (writeRefusals rule boards cells starting records room)
+      write-short h = rw (lt-ltb room (recordsAt cells + records) h) at write-room
 
-      pub write-roomy : 9 + 4 * cells + records ≤ room → 0 ≡ firstNumber (writeRefusals rule boards cells starting records room)
-      write-roomy h = rw (le-ltb room (9 + 4 * cells + records) h) at write-room
+      pub write-roomy : recordsAt cells + records ≤ room → 0 ≡ firstNumber (writeRefusals rule boards cells starting records room)
+      write-roomy h = rw (le-ltb room (recordsAt cells + records) h) at write-room

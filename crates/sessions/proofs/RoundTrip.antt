@@ -8,7 +8,7 @@ use lib.Seq.{take-at, drop-at}
 use borrow.Author.Tests.{eq-eqb}
 use Rattle.protocol.specs.declared.Answer.{Answer}
 use Rattle.protocol.specs.First.{firstNumber}
-use Rattle.sessions.specs.File.{Below, ruleIn, boardsIn, cellsIn, startingIn, recordsIn, headed, fileOf}
+use Rattle.sessions.specs.File.{Below, ruleIn, boardsIn, cellsIn, startingIn, recordsIn, headed, fileOf, recordsAt}
 use Rattle.sessions.specs.FileRefusals.{readRefusals, writeRefusals}
 use Rattle.sessions.specs.Statements.{accepting, Reads, Writes, ReadAs}
 use Rattle.sessions.proofs.AcceptedLaws.{writable, readable}
@@ -31,8 +31,8 @@ read-is-writable : (file : List ℕ) (room : ℕ) → firstNumber (readRefusals 
 read-is-writable file room e h =
     let r = readable file (cellsIn file) .0 e in
     let v : length (startingIn file) ≡ cellsIn file = length-starting file in
-    let d : length (recordsIn file) ≡ length file - (9 + 4 * cellsIn file) = length-drop (9 + 4 * cellsIn file) file in
-    rw (v, d) (writable (ruleIn file) (boardsIn file) (cellsIn file) (cellsIn file) (length file - (9 + 4 * cellsIn file)) room .1
+    let d : length (recordsIn file) ≡ length file - (recordsAt (cellsIn file)) = length-drop (recordsAt (cellsIn file)) file in
+    rw (v, d) (writable (ruleIn file) (boardsIn file) (cellsIn file) (cellsIn file) (length file - (recordsAt (cellsIn file))) room .1
     (record { sizes = r .sizes; ruled = r .ruled; recorded = r .recorded; roomy = omega (arith, r .valued) }))
 
 -- ---- from a session to a file to a session
@@ -45,8 +45,8 @@ module _ (rule boards cells : ℕ) (starting records : List ℕ) (room : ℕ) wh
       let w = writable rule boards cells (length starting) (length records) room .0 e in
       let z = w .sizes in
       let c : cellsIn file ≡ cells = cells-of rule boards cells starting records in
-      let l : length file ≡ 9 + 4 * cells + length records = length-file rule boards cells starting records ∙ ap (λ (k : ℕ). 9 + 4 * k + length records) (z .matching) in
-      let n : length file - (9 + 4 * cellsIn file) ≡ length records = rw (c, l) (omega arith) in
+      let l : length file ≡ recordsAt cells + length records = length-file rule boards cells starting records ∙ ap (λ (k : ℕ). recordsAt k + length records) (z .matching) in
+      let n : length file - (recordsAt (cellsIn file)) ≡ length records = rw (c, l) (omega arith) in
       record {
         accepted = readable file cells .1 (record {
           headed-whole = omega arith;
@@ -92,15 +92,15 @@ read-then-write file old records number rule boards cells starting b p z before 
 module _ (rule boards cells : ℕ) (starting records before : List ℕ) (r : Answer) (out : List ℕ) where
   pub write-then-read : Below 4294967296 starting → Writes rule boards cells starting records before r out → r .number ≡ 0 →
       (old records′ : List ℕ) (number rule′ boards′ cells′ : ℕ) (starting′ : List ℕ) → length old ≡ cells →
-      Reads (take (9 + 4 * cells + length records) out) old records′ number rule′ boards′ cells′ starting′ →
+      Reads (take (recordsAt cells + length records) out) old records′ number rule′ boards′ cells′ starting′ →
       (number ≡ 0) × (rule′ ≡ rule) × (boards′ ≡ boards) × (cells′ ≡ cells) × (starting′ ≡ starting) × (records′ ≡ records)
   write-then-read b w z old records′ number rule′ boards′ cells′ starting′ l p =
       let file = fileOf rule boards cells starting records in
       let e : firstNumber (writeRefusals rule boards cells (length starting) (length records) (length before)) ≡ 0 = sym (w .number-is) ∙ z in
       let m = writable rule boards cells (length starting) (length records) (length before) .0 e .sizes .matching in
-      let n : length file ≡ 9 + 4 * cells + length records = length-file rule boards cells starting records ∙ ap (λ (k : ℕ). 9 + 4 * k + length records) m in
+      let n : length file ≡ recordsAt cells + length records = length-file rule boards cells starting records ∙ ap (λ (k : ℕ). recordsAt k + length records) m in
       let o : out ≡ file ++ drop (length file) before = w .bytes ∙ when-accepted (r .number) _ _ z in
-      let t : take (9 + 4 * cells + length records) out ≡ file = rw o (take-at file (drop (length file) before) (9 + 4 * cells + length records) n) in
+      let t : take (recordsAt cells + length records) out ≡ file = rw o (take-at file (drop (length file) before) (recordsAt cells + length records) n) in
       let q : Reads file old records′ number rule′ boards′ cells′ starting′ = rw t at p in
       let s = same-session rule boards cells starting records (length before) b e in
       let y : number ≡ 0 = q .number-is ∙ rw l (s .accepted) in (

@@ -9,7 +9,7 @@ use lib.ListN.{length, getD, List·getD-eq-default}
 use lib.Seq.{getD-drop}
 use Rattle.protocol.specs.Runs.{Line}
 use Rattle.protocol.proofs.SmallNumbers.{SmallActions, SmallLines, fresh-log-small}
-use Rattle.sessions.specs.File.{Below, le32, values, actionAt, actions, ruleIn, boardsIn, cellsIn, startingIn, recordsIn}
+use Rattle.sessions.specs.File.{Below, le32, values, actionAt, actions, ruleIn, boardsIn, cellsIn, startingIn, recordsIn, recordsAt}
 use Rattle.sessions.specs.Run.{actionsOf, logOf, acceptedIn, countBelow, sumBelow, staleIn, staleOf}
 use Rattle.sessions.proofs.BytesLaws.{length-starting}
 use Rattle.sessions.proofs.RunLaws.{one-at-most}
@@ -50,7 +50,7 @@ log-of-bytes file b =
     bytes = byte-at file b
 
     in-records : (i : ℕ) → getD (recordsIn file) i 0 < 256
-    in-records i = rw (getD-drop (9 + 4 * cellsIn file) file i 0) (bytes (9 + 4 * cellsIn file + i))
+    in-records i = rw (getD-drop (recordsAt (cellsIn file)) file i 0) (bytes (recordsAt (cellsIn file) + i))
 
 -- ---- the counts
 

@@ -10,7 +10,7 @@ use lib.ListN.{length, getD, drop, length-drop}
 use lib.Seq.{getD-drop, drop-drop, drop-at, drop-cons}
 use borrow.Author.Tests.{eqb-true}
 use Rattle.protocol.proofs.Booleans.{and-left, and-right}
-use Rattle.sessions.specs.File.{Below, le16, le32, values, marked, versionIn, ruleIn, boardsIn, cellsIn, startingIn, recordsIn, packed, headed, fileOf}
+use Rattle.sessions.specs.File.{Below, le16, le32, values, marked, versionIn, ruleIn, boardsIn, cellsIn, startingIn, recordsIn, packed, headed, fileOf, recordsAt}
 use Rattle.sessions.proofs.WrittenLaws.{length-packed}
 
 below-drop : (k n : ℕ) (l : List ℕ) → Below k l → Below k (drop n l)
@@ -98,7 +98,7 @@ module _ (rule boards cells : ℕ) (starting records : List ℕ) where
     pub records-of : recordsIn file ≡ records
     unfolding fileOf headed
     records-of =
-        ap (λ (k : ℕ). drop (9 + 4 * k) file) (cells-of ∙ sym n) ∙ sym (drop-drop (4 * length starting) 9 file) ∙ drop-at (packed starting) records (4 * length starting) (length-packed starting)
+        ap (λ (k : ℕ). drop (recordsAt k) file) (cells-of ∙ sym n) ∙ sym (drop-drop (4 * length starting) 9 file) ∙ drop-at (packed starting) records (4 * length starting) (length-packed starting)
 
 -- ---- the bytes of parts that were read
 
@@ -127,7 +127,7 @@ module _ (s : List ℕ) (b : Below 256 s) where
       let e8 : (getD s 7 0 + getD s 8 0 * 256) / 256 ≡ getD s 8 0 = omega arith in
       sym (nine s h ∙ rw (e0, e1, e2, e3, e4, e7, e8))
 
-  pub body-of : 9 + 4 * cellsIn s ≤ length s → packed (startingIn s) ++ recordsIn s ≡ drop 9 s
+  pub body-of : recordsAt (cellsIn s) ≤ length s → packed (startingIn s) ++ recordsIn s ≡ drop 9 s
   body-of h =
       rw (values-drop s 9 (cellsIn s), ← drop-drop (4 * cellsIn s) 9 s)
       (packed-unpacked (cellsIn s) (drop 9 s) (below-drop 256 9 s b) (rw length-drop (omega arith)))

@@ -6,7 +6,7 @@ use Prim.Native.Nat.{ℕ, _+_, _*_}
 use lib.ListN.{length, drop}
 use borrow.Author.Tests.{eq-eqb, ne-eqb}
 use Rattle.protocol.specs.First.{firstNumber}
-use Rattle.sessions.specs.File.{packed, headed, fileOf}
+use Rattle.sessions.specs.File.{packed, headed, fileOf, recordsAt}
 use Rattle.sessions.specs.FileRefusals.{writeRefusals}
 use Rattle.sessions.specs.Statements.{Writes}
 use Rattle.sessions.specs.Written.{written}
@@ -19,7 +19,7 @@ module _ (rule boards cells : ℕ) (starting records old : List ℕ) (n : ℕ) (
   refused z = record { number-is = e; value-is = refl; bytes = rw (ne-eqb n 0 z) }
 
   -- after the header, after the values and at the end
-  pub accepted : n ≡ 0 → (h v out : List ℕ) → h ≡ written (headed rule boards cells) 0 old → v ≡ written (packed starting) 9 h → out ≡ written records (9 + 4 * cells) v →
+  pub accepted : n ≡ 0 → (h v out : List ℕ) → h ≡ written (headed rule boards cells) 0 old → v ≡ written (packed starting) 9 h → out ≡ written records (recordsAt cells) v →
       Writes rule boards cells starting records old (record { number = n; value = 0 }) out
   accepted z h v out a b c =
       let f = writable rule boards cells (length starting) (length records) (length old) .0 (sym e ∙ z) in

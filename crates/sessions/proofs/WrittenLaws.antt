@@ -7,7 +7,7 @@ use native.Mathlib.Omega.{arith}
 use native.Mathlib.Nat.{add-zero}
 use lib.ListN.{length, getD, take, drop, set, length-append, take-append-drop}
 use lib.Seq.{drop-cons, set-at, length-take-le, take-suc, take-at, drop-append-add, drop-drop, sets, sets-eq}
-use Rattle.sessions.specs.File.{four, packed, headed, fileOf}
+use Rattle.sessions.specs.File.{four, packed, headed, fileOf, recordsAt}
 use Rattle.sessions.specs.Written.{written}
 
 pub written-none : (at : ℕ) (old : List ℕ) → old ≡ written [] at old
@@ -88,7 +88,7 @@ module _ (xs : List ℕ) (i at : ℕ) (old : List ℕ) (h : i < length xs) where
       let n : length (take i xs) ≡ i = length-take-le i xs (omega arith) in
       rw (add-one, take-suc xs i 0 h) (ap (λ (j : ℕ). set (written (take i xs) at old) (at + j) (getD xs i 0)) (sym n) ∙ write-one (take i xs) (getD xs i 0) at old (omega arith))
 
-pub length-file : (rule boards cells : ℕ) (starting records : List ℕ) → length (fileOf rule boards cells starting records) ≡ 9 + 4 * length starting + length records
+pub length-file : (rule boards cells : ℕ) (starting records : List ℕ) → length (fileOf rule boards cells starting records) ≡ recordsAt (length starting) + length records
 unfolding fileOf headed
 length-file rule boards cells starting records = rw (length-append, length-append (packed starting) records, length-packed) (omega arith)
 
@@ -98,15 +98,15 @@ unfolding written
 in-front ds old = let z : 0 + length ds ≡ length ds = omega arith in rw z
 
 -- the header, the values and the records are the file
-pub written-file : (rule boards cells : ℕ) (starting records old : List ℕ) → 9 + 4 * length starting + length records ≤ length old →
-    written records (9 + 4 * length starting) (written (packed starting) 9 (written (headed rule boards cells) 0 old))
+pub written-file : (rule boards cells : ℕ) (starting records old : List ℕ) → recordsAt (length starting) + length records ≤ length old →
+    written records (recordsAt (length starting)) (written (packed starting) 9 (written (headed rule boards cells) 0 old))
     ≡ fileOf rule boards cells starting records ++ drop (length (fileOf rule boards cells starting records)) old
 unfolding headed fileOf
 written-file rule boards cells starting records old h =
     let hd = headed rule boards cells in
     let n : length (packed starting) ≡ 4 * length starting = length-packed starting in
-    let l : 0 + length (hd ++ packed starting) ≡ 9 + 4 * length starting = rw length-append (omega arith) in
-    ap (written records (9 + 4 * length starting)) (written-more hd (packed starting) 0 old (omega arith))
+    let l : 0 + length (hd ++ packed starting) ≡ recordsAt (length starting) = rw length-append (omega arith) in
+    ap (written records (recordsAt (length starting))) (written-more hd (packed starting) 0 old (omega arith))
     ∙ ap (λ (k : ℕ). written records k (written (hd ++ packed starting) 0 old)) (sym l)
     ∙ written-more (hd ++ packed starting) records 0 old (omega arith)
     ∙ ap (λ (f : List ℕ). written f 0 old) (append-assoc hd (packed starting) records)

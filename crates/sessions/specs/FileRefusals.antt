@@ -4,6 +4,7 @@ use mathlib.Core.List.{List, [], _∷_, _++_}
 use Prim.Native.Nat.{ℕ, _+_, _-_, _/_, _%_}
 use lib.Dec.{eqb, ltb}
 use lib.ListN.{length}
+use Rattle.protocol.specs.Names.{lastRule}
 use Rattle.protocol.specs.Slices.{Table, inRange, sizesGood}
 use Rattle.protocol.specs.First.{Refusal, when}
 use Rattle.sessions.specs.File.{marked, versionIn, ruleIn, boardsIn, cellsIn, recordsAt}
@@ -14,7 +15,7 @@ headRefusals file = when 19 (ltb (length file) 9) ∷ when 17 (not (marked file)
 
 -- "sizes 1, rule 2, body 19"
 unfoldable pub bodyRefusals : (sizesBad : Bool) → (rule : ℕ) → (bodyBad : Bool) → List Refusal
-bodyRefusals sizesBad rule bodyBad = when 1 sizesBad ∷ when 2 (ltb 4 rule) ∷ when 19 bodyBad ∷ []
+bodyRefusals sizesBad rule bodyBad = when 1 sizesBad ∷ when 2 (ltb lastRule rule) ∷ when 19 bodyBad ∷ []
 
 -- "a part of a record at the end, or over 4,096 records": n is the number of record bytes
 unfoldable pub recordsBad : (n : ℕ) → Bool

@@ -66,6 +66,10 @@ staleIn boards cells t latest =
 unfoldable pub staleOf : (file : List ℕ) → ℕ
 staleOf file = staleIn (boardsIn file) (cellsIn file) (endOf file) (λ c. latestWrite c (getD (startingIn file) c 0) (logOf file))
 
+-- the cell number that a line names
+abbrev pub cellOfLine : Line → ℕ
+cellOfLine line = line .action .cell
+
 -- two files with the same head and starting values, "holding the same actions in the same order for each cell number"
 pub record Alike (file other : List ℕ) : Type 0 where
   pub same-rule : ruleIn file ≡ ruleIn other
@@ -73,3 +77,10 @@ pub record Alike (file other : List ℕ) : Type 0 where
   pub same-cells : cellsIn file ≡ cellsIn other
   pub same-starting : startingIn file ≡ startingIn other
   pub same-order : (cell : ℕ) → naming (λ (a : Action). a .cell) cell (actionsOf file) ≡ naming (λ (a : Action). a .cell) cell (actionsOf other)
+
+-- what the caller of a run was told: each action with its number and its value from the two answer slices
+unfoldable pub toldIn : (numbers values : List ℕ) → List Action → List Line
+toldIn numbers values [] = []
+toldIn [] values (a ∷ l) = []
+toldIn (n ∷ numbers) [] (a ∷ l) = []
+toldIn (n ∷ numbers) (v ∷ values) (a ∷ l) = record { action = a; told = record { number = n; value = v } } ∷ toldIn numbers values l

@@ -56,7 +56,7 @@ pub fn body_refusal(sizes_bad: bool, rule: u8, body_bad: bool) -> u8
     if sizes_bad {
         return protocol::BAD_SIZES;
     }
-    if rule > 4 {
+    if rule > protocol::LAST_RULE {
         return protocol::BAD_RULE;
     }
     if body_bad {
