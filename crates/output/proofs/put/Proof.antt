@@ -14,11 +14,11 @@ use Rattle.output.proofs.put.Statement.{statement}
 use Rattle.output.proofs.put.Tie as tie
 
 -- the first bytes of the slice are the listing
-in-front : (file old : List ℕ) (r : Listed) (out : List ℕ) → 94232 ≤ length old → Lists file old r out → (r .length ≤ length old) × (take (r .length) out ≡ listingOf file)
+in-front : (file old : List ℕ) (r : Listed) (out : List ℕ) → 94232 ≤ length old → Lists file old r out → (r .length ≤ length old) × (r .length ≡ length (listingOf file)) × (take (r .length) out ≡ listingOf file)
 in-front file old r out h s =
     let n = never-20 file old r out h s in
     let l : r .length ≡ length (listingOf file) = s .length-is ∙ rw n in
-    (omega (arith, s .enough), rw (l, s .bytes-are, n) (take-append-seam (listingOf file) (drop (length (listingOf file)) old)))
+    (omega (arith, s .enough), l, rw (l, s .bytes-are, n) (take-append-seam (listingOf file) (drop (length (listingOf file)) old)))
 
 list-requires : tie.Need-list-requires
 list-requires c κs = search needs
