@@ -1,125 +1,96 @@
-// What a case prints: a label, then numbers, each behind a blank, and commas between what belongs together.
-use protocol::Answer;
-use table::Checked;
-
-fn number(n: u64) {
-    label(b" ");
-    io::print_decimal(1, n);
-}
-
-pub fn byte(n: u8) {
-    number(n as u64);
-}
-
-pub fn value(n: u32) {
-    number(n as u64);
-}
-
-pub fn count(n: usize) {
-    number(n as u64);
-}
-
-pub fn label(s: &[u8]) {
+// What a line of the answer is made of: words, numbers, and the contents of slices.
+pub fn text(s: &[u8]) {
     io::write_all(1, s);
 }
 
-// A label, and the rule.
-pub fn ruled(s: &[u8], rule: u8) {
-    label(s);
-    label(b", rule");
-    byte(rule);
-    label(b":");
+pub fn first(n: usize) {
+    io::print_decimal(1, n as u64);
 }
 
-pub fn comma() {
-    label(b",");
+pub fn next(n: usize) {
+    text(b" ");
+    first(n);
 }
 
-pub fn end() {
-    label(b"\n");
+fn labelled(s: &[u8], n: usize) {
+    text(s);
+    next(n);
 }
 
-pub fn bytes(s: &[u8]) {
-    let mut i = 0;
-    while i < s.len() {
-        byte(s[i]);
-        i += 1;
-    }
+pub fn answer(a: protocol::Answer) {
+    first(a.number as usize);
+    next(a.value as usize);
 }
 
-// The same, where they are few.
-pub fn few_bytes(s: &[u8]) {
-    if s.len() <= 24 {
-        bytes(s);
-    }
-}
-
-pub fn values(s: &[u32]) {
-    let mut i = 0;
-    while i < s.len() {
-        value(s[i]);
-        i += 1;
-    }
-}
-
-pub fn few_values(s: &[u32]) {
-    if s.len() <= 24 {
-        values(s);
-    }
-}
-
-fn mask(n: u16) {
-    number(n as u64);
-}
-
-pub fn masks(s: &[u16]) {
-    let mut i = 0;
-    while i < s.len() {
-        mask(s[i]);
-        i += 1;
-    }
-}
-
-pub fn few_masks(s: &[u16]) {
-    if s.len() <= 24 {
-        masks(s);
-    }
-}
-
-pub fn truth(b: bool) {
-    if b {
-        label(b" yes");
-    } else {
-        label(b" no");
-    }
-}
-
-pub fn found(c: Checked) {
+pub fn found(c: table::Checked) {
     match c {
-        Checked::Sound => {
-            label(b" sound");
-        }
-        Checked::Unsound(cell) => {
-            label(b" unsound");
-            count(cell);
-        }
-        Checked::Refused(n) => {
-            label(b" refused");
-            byte(n);
-        }
+        table::Checked::Sound => text(b"sound"),
+        table::Checked::Unsound(cell) => labelled(b"unsound", cell),
+        table::Checked::Refused(n) => labelled(b"refused", n as usize),
     }
 }
 
-// What an action answered under a rule, and the table after it.
-pub fn stepped(s: &[u8], rule: u8, r: Answer, main: &[u32], copies: &[u32], three: &[u16]) {
-    ruled(s, rule);
-    byte(r.number);
-    value(r.value);
-    comma();
-    values(main);
-    comma();
-    values(copies);
-    comma();
-    masks(three);
-    end();
+pub fn sizes(s: sessions::Sizes) {
+    first(s.boards);
+    next(s.cells);
+}
+
+pub fn report(r: sessions::Report) {
+    first(r.number as usize);
+    next(r.accepted);
+    next(r.stale);
+}
+
+pub fn listed(l: listing::Listed) {
+    first(l.number as usize);
+    next(l.length);
+}
+
+// Up to 64 numbers are told one by one, and more by a sum in which each number and its place counts.
+fn tell(length: usize, sum: u64, n: u32) -> u64 {
+    if length <= 64 {
+        next(n as usize);
+        return 0;
+    }
+    (sum % 4294967291 * 31 + n as u64) % 4294967291
+}
+
+pub fn end(has: bool, length: usize, sum: u64) {
+    if length > 64 {
+        next(length);
+        labelled(b" numbers, sum", sum as usize);
+    }
+    if has {
+        text(b" |");
+    }
+}
+
+pub fn bytes(has: bool, s: &[u8]) {
+    let mut sum = 0;
+    let mut i = 0;
+    while i < s.len() {
+        sum = tell(s.len(), sum, s[i] as u32);
+        i += 1;
+    }
+    end(has, s.len(), sum);
+}
+
+pub fn masks(has: bool, s: &[u16]) {
+    let mut sum = 0;
+    let mut i = 0;
+    while i < s.len() {
+        sum = tell(s.len(), sum, s[i] as u32);
+        i += 1;
+    }
+    end(has, s.len(), sum);
+}
+
+pub fn values(has: bool, s: &[u32]) {
+    let mut sum = 0;
+    let mut i = 0;
+    while i < s.len() {
+        sum = tell(s.len(), sum, s[i]);
+        i += 1;
+    }
+    end(has, s.len(), sum);
 }

@@ -18,11 +18,11 @@ use Rattle.protocol.proofs.InWords.{range-exactly, sizes-exactly}
 use Rattle.sessions.specs.File.{marked, versionIn, ruleIn, boardsIn, cellsIn, actionAt}
 use Rattle.sessions.specs.FileRefusals.{headRefusals, bodyRefusals, recordsBad, bodyBad, readRefusals, countIn, runRefusals}
 use Rattle.sessions.specs.Run.{lineOfRecord}
-use Rattle.sessions.specs.Statements.{SizesIn, Runs}
+use Rattle.sessions.specs.Statements.{HeadOf, Runs}
 use Rattle.sessions.specs.declared.Report.{Report}
-use Rattle.sessions.specs.declared.Sizes.{Sizes}
+use Rattle.sessions.specs.declared.Head.{Head}
 use Rattle.sessions.proofs.AcceptedLaws.{readable, few-records}
-use Rattle.sessions.proofs.BytesLaws.{sizes-are}
+use Rattle.sessions.proofs.BytesLaws.{head-says}
 use Rattle.sessions.proofs.LogLaws.{logged, its-action, in-slice}
 use Rattle.listing.specs.Listing.{refusalOf}
 use Rattle.listing.specs.Code.{RunTold, Lent, Sized}
@@ -64,16 +64,16 @@ module _ (file : List ℕ) (t : Table) (numbers values : ℕ) (fits : Sized file
 
 -- ---- what is lent
 
-module _ (file : List ℕ) (r : Sizes) (s : SizesIn file r) where
+module _ (file : List ℕ) (r : Head) (s : HeadOf file r) where
   pub out-of-range : inRange (r .boards) (r .cells) ≡ false → Lent file 0 0
   out-of-range h = record {
     few-boards = omega arith;
     few-cells = omega arith;
-    right = λ l e. let said = sizes-are file r s l in absurd (clash e (rw (said .0, said .1) at h));
+    right = λ l e. let said = head-says file r s l in absurd (clash e (rw (said .says-boards, said .says-cells) at h));
   }
 
   pub in-range : inRange (r .boards) (r .cells) ≡ true → Lent file (r .boards) (r .cells)
-  in-range h = let range = range-exactly (r .boards) (r .cells) .0 h in record { few-boards = range .0 .1; few-cells = range .1 .1; right = λ l e. sizes-are file r s l }
+  in-range h = let range = range-exactly (r .boards) (r .cells) .0 h in record { few-boards = range .0 .1; few-cells = range .1 .1; right = λ l e. let said = head-says file r s l in (said .says-boards, said .says-cells) }
 
 pub lengths : (boards cells : ℕ) (m k w : List ℕ) → length m ≡ cells → length k ≡ cells * boards → length w ≡ cells * 3 → (s : Slice) → length (tableOf m k w s) ≡ cells * width boards s
 lengths boards cells m k w a b c main = unfold width in omega arith

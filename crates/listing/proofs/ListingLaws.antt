@@ -12,9 +12,10 @@ use Rattle.protocol.specs.Runs.{Line}
 use Rattle.sessions.specs.Written.{written}
 use Rattle.sessions.specs.Run.{logOf, noLine, lineOfRecord, acceptedIn, staleOf}
 use Rattle.sessions.proofs.WrittenLaws.{written-more, in-front}
+use Rattle.sessions.specs.declared.Head.{Head}
+use Rattle.sessions.proofs.BytesLaws.{Says}
 use Rattle.listing.specs.Listing.{firstLine, lastLine, line, recordNumbers, recordLines, refusedWord, refusedListing, runListing, refusalOf, listingOf}
-use Rattle.listing.specs.Code.{HeadIn, Told}
-use Rattle.listing.specs.declared.head.Head.{Head}
+use Rattle.listing.specs.Code.{Told}
 use Rattle.listing.specs.declared.Listed.{Listed}
 use Rattle.listing.specs.Statements.{Puts, Lists}
 
@@ -122,7 +123,7 @@ module _ (file : List ℕ) where
       ∙ ap (λ (l : List ℕ). written l 0 old) (append-assoc (firstLine file) ls (lastLine file))
 
   -- how it is measured and put, part by part
-  module _ (head : Head) (accepted stale : ℕ) (s : HeadIn file head) (a : accepted ≡ acceptedIn (logOf file)) (z : stale ≡ staleOf file) where
+  module _ (head : Head) (accepted stale : ℕ) (s : Says file head) (a : accepted ≡ acceptedIn (logOf file)) (z : stale ≡ staleOf file) where
     abbrev first : List ℕ
     first = line (head .rule ∷ head .boards ∷ head .cells ∷ [])
 
@@ -130,10 +131,10 @@ module _ (file : List ℕ) where
     last = line (head .count ∷ accepted ∷ stale ∷ [])
 
     is-first : first ≡ firstLine file
-    is-first = rw (s .rule-is, s .boards-are, s .cells-are)
+    is-first = rw (s .says-rule, s .says-boards, s .says-cells)
 
     is-last : last ≡ lastLine file
-    is-last = rw (s .count-is, a, z)
+    is-last = rw (s .says-count, a, z)
 
     pub length-parts : length first + length (recordLines 0 (logOf file)) + length last ≡ length (runListing file)
     length-parts = omega (arith, length-run, ap length is-first, ap length is-last)

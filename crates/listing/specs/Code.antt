@@ -5,19 +5,10 @@ use mathlib.Core.List.{List}
 use Prim.Native.Nat.{ℕ, _+_, _*_, _<_, _≤_}
 use lib.ListN.{length, getD}
 use Rattle.protocol.specs.Slices.{Table, inRange, sizesGood}
-use Rattle.sessions.specs.File.{ruleIn, boardsIn, cellsIn}
+use Rattle.sessions.specs.File.{boardsIn, cellsIn, recordsAt}
 use Rattle.sessions.specs.FileRefusals.{countIn}
 use Rattle.sessions.specs.Run.{logOf, lineOfRecord, acceptedIn, staleOf}
-use Rattle.listing.specs.declared.head.Head.{Head}
 use Rattle.listing.specs.Listing.{refusalOf}
-
--- the numbers of the first line, where the records begin, and how many there are
-pub record HeadIn (file : List ℕ) (r : Head) : Type 0 where
-  pub rule-is : r .rule ≡ ruleIn file
-  pub boards-are : r .boards ≡ boardsIn file
-  pub cells-are : r .cells ≡ cellsIn file
-  pub from-is : r .from ≡ 9 + 4 * cellsIn file
-  pub count-is : r .count ≡ countIn file
 
 -- two slices tell the answers of a file's records; the records begin at `from`, and there are `count` of them
 pub record Told (file : List ℕ) (from count : ℕ) (numbers values : List ℕ) : Type 0 where
@@ -37,7 +28,7 @@ pub record RunTold (file numbers values : List ℕ) (accepted stale : ℕ) : Typ
   pub headed : 9 ≤ length file
   pub accepted-is : accepted ≡ acceptedIn (logOf file)
   pub stale-is : stale ≡ staleOf file
-  pub told : Told file (9 + 4 * cellsIn file) (countIn file) numbers values
+  pub told : Told file (recordsAt (cellsIn file)) (countIn file) numbers values
 
 -- as many boards and cells as are lent: those of the file, where it has any
 pub record Lent (file : List ℕ) (boards cells : ℕ) : Type 0 where

@@ -1,17 +1,24 @@
 // The sizes of the table that a listing lends to the run.
 ghost use Rattle.listing.specs.Code.{Lent};
-use sessions::Sizes;
+
+pub struct Size {
+    pub boards: usize,
+    pub cells: usize,
+}
 
 // Those of the file; 0 where they are out of range.
-pub fn sizes(file: &[u8]) -> Sizes
+pub fn sizes(file: &[u8]) -> Size
     ensures { λ r. ⌜ Lent (now (file .entry)) (r .boards) (r .cells) ⌝ }
 {
-    let sizes = sessions::sizes_in(file);
-    if !table::in_range(sizes.boards, sizes.cells) {
-        return Sizes {
+    let head = sessions::head_of(file);
+    if !table::in_range(head.boards, head.cells) {
+        return Size {
             boards: 0,
             cells: 0,
         };
     }
-    sizes
+    Size {
+        boards: head.boards,
+        cells: head.cells,
+    }
 }

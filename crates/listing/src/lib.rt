@@ -2,7 +2,6 @@
 ghost use Rattle.listing.specs.Statements.{Lists};
 
 mod decimal;
-mod head;
 mod lent;
 mod line;
 mod lister;

@@ -5,7 +5,6 @@ ghost use lib.ListN.{length};
 ghost use Rattle.sessions.specs.Written.{written};
 ghost use Rattle.listing.specs.Listing.{runListing};
 ghost use Rattle.listing.specs.Code.{RunTold};
-use crate::head;
 use crate::line;
 use crate::records;
 
@@ -20,8 +19,8 @@ pub fn run_width(
     requires { ⌜ RunTold (now file) (now numbers) (now values) accepted stale ⌝ }
     ensures { λ r. ⌜ r ≡ length (runListing (now (file .entry))) ⌝ }
 {
-    let head = head::read(file);
-    line::line_width(&[head.rule, head.boards, head.cells])
+    let head = sessions::head_of(file);
+    line::line_width(&[head.rule as usize, head.boards, head.cells])
         + records::records_width(file, head.from, head.count, numbers, values)
         + line::line_width(&[head.count, accepted, stale])
 }
@@ -38,8 +37,8 @@ pub fn put_run(
     requires { ⌜ RunTold (now file) (now numbers) (now values) accepted stale × (length (runListing (now file)) ≤ length (now out)) ⌝ }
     ensures { λ r. ⌜ (r ≡ length (runListing (now (file .entry)))) × (now (out .exit) ≡ written (runListing (now (file .entry))) 0 (now (out .entry))) ⌝ }
 {
-    let head = head::read(file);
-    let first = line::put_line(out, 0, &[head.rule, head.boards, head.cells]);
+    let head = sessions::head_of(file);
+    let first = line::put_line(out, 0, &[head.rule as usize, head.boards, head.cells]);
     let last = records::put_records(file, head.from, head.count, numbers, values, out, first);
     line::put_line(out, last, &[head.count, accepted, stale])
 }

@@ -84,9 +84,9 @@ module _ (places : Places) (boards cells : ℕ) (ok : Proper places boards cells
             ≡ cond (eqb j k) v (cond (ltb j (width boards s) && ltb c cells) (getD (t s) (places s c j) 0) 0)
         go (yes e) b q =
             rw (e, eq-eqb k k refl, lt-ltb k (width boards s) l, lt-ltb c cells inside)
-            (getD-set-same (t s) (places s c k) v 0 (omega (arith, z s, ok .within s c k inside l)))
+            (getD-set-same (t s) (places s c k) v 0 (omega (arith, z s, ok s .within c k inside l)))
         go (no n) true q =
-            rw (ne-eqb j k n, getD-set-other (t s) (places s c k) (places s c j) v 0 (λ e. n (ok .apart s c j c k inside (ltb-true j (width boards s) q) inside l e .1)))
+            rw (ne-eqb j k n, getD-set-other (t s) (places s c k) (places s c j) v 0 (λ e. n (ok s .apart c j c k inside (ltb-true j (width boards s) q) inside l e .1)))
         go (no n) false q = rw (q, ne-eqb j k n)
 
     put-there : (d : ℕ) → d ≢ c → (j : ℕ) →
@@ -98,7 +98,7 @@ module _ (places : Places) (boards cells : ℕ) (ok : Proper places boards cells
             cond b (getD (set (t s) (places s c k) v) (places s d j) 0) 0 ≡ cond b (getD (t s) (places s d j) 0) 0
         go true e =
             getD-set-other (t s) (places s c k) (places s d j) v 0
-            (λ q. n (ok .apart s d j c k (ltb-true d cells (and-right (ltb j (width boards s)) (ltb d cells) e)) (ltb-true j (width boards s) (and-left (ltb j (width boards s)) (ltb d cells) e)) inside l q .0))
+            (λ q. n (ok s .apart d j c k (ltb-true d cells (and-right (ltb j (width boards s)) (ltb d cells) e)) (ltb-true j (width boards s) (and-left (ltb j (width boards s)) (ltb d cells) e)) inside l q .0))
         go false e = refl
 
   store-here : (t : Table) (s : Slice) (k v : ℕ) → Sized boards cells t → k < width boards s →
@@ -146,7 +146,7 @@ module _ (places : Places) (boards cells : ℕ) (ok : Proper places boards cells
   -- slice by slice
   pub same-list : (s : Slice) → ((c k : ℕ) → cellBy places boards cells t c s k ≡ cellBy places boards cells u c s k) → t s ≡ u s
   unfolding cellBy
-  same-list s e = ext-getD 0 (t s) (u s) (y s ∙ sym (z s)) (λ i h. let f = ok .onto s i (omega (arith, y s, h)) in at i (f .0) (f .1) (f .2) (f .3) (f .4))
+  same-list s e = ext-getD 0 (t s) (u s) (y s ∙ sym (z s)) (λ i h. let f = ok s .onto i (omega (arith, y s, h)) in at i (f .0) (f .1) (f .2) (f .3) (f .4))
     where
       at : (i c k : ℕ) → c < cells → k < width boards s → i ≡ places s c k → getD (t s) i 0 ≡ getD (u s) i 0
       at i c k l h q = rw q (rw (lt-ltb k (width boards s) h, lt-ltb c cells l) at (e c k))

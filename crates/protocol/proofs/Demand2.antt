@@ -19,7 +19,7 @@ use Rattle.protocol.specs.Soundness.{sound}
 use Rattle.protocol.specs.First.{Refusal}
 use Rattle.protocol.specs.Guards.{guard}
 use Rattle.protocol.specs.Effects.{effect}
-use Rattle.protocol.specs.Step.{malformed, offBoard, seen, refusals, answer, tableAfter}
+use Rattle.protocol.specs.Step.{malformed, offBoard, seenBy, seen, refusals, answerBy, answer, tableAfter}
 use Rattle.protocol.specs.Handout.{State, Guard, Effect, Value}
 use Rattle.protocol.specs.AsHandout.{asState, Stands, inHandout, OtherFails, NoOtherHolds}
 use Rattle.protocol.proofs.Booleans.{either, and-both}
@@ -53,7 +53,7 @@ quiet-guard = guard-every quiet (λ n b l h. go (eqb n 4) (not b) (and-both (leb
 pub no-other-exactly : (rule boards cells : ℕ) (t : Table) (a : Action) →
     NoOtherHolds (refusals rule boards cells (seen boards cells t (a .cell)) a)
     ↔ ((sizesGood boards cells t ≡ true) × (rule ≤ lastRule) × (malformed a ≡ false) × (offBoard boards a ≡ false) × (a .cell < cells) × (sound (ruleOf rule) boards (cellOf boards cells t (a .cell)) ≡ true))
-unfolding refusals seen inHandout every
+unfolding refusals seenBy inHandout every
 no-other-exactly rule boards cells t a = (into, back)
   where
     rs : List Refusal
@@ -81,7 +81,7 @@ formed rule boards cells t a quiet =
 -- an action that the rule's module does not have has no guard, and is never accepted
 pub accepted-when-allowed : (rule boards cells : ℕ) (t : Table) (a : Action) → NoOtherHolds (refusals rule boards cells (seen boards cells t (a .cell)) a) →
     (answer rule boards cells t a .number ≡ 0) ↔ Guard boards (asState (cellOf boards cells t (a .cell))) (ruleOf rule) (procOf a)
-unfolding answer seen
+unfolding answerBy seenBy
 accepted-when-allowed rule boards cells t a quiet = ((λ e. accepted rule boards cells (seen boards cells t (a .cell)) a e .guarded), back)
   where
     x : Cell
@@ -99,29 +99,29 @@ accepted-when-allowed rule boards cells t a quiet = ((λ e. accepted rule boards
 
 module _ (rule boards cells : ℕ) (t : Table) (a : Action) (e : answer rule boards cells t a .number ≡ 0) where
   facts : Accepted rule boards cells (seen boards cells t (a .cell)) a
-  unfolding answer
+  unfolding answerBy
   facts = accepted rule boards cells (seen boards cells t (a .cell)) a e
 
   pub after-is : cellOf boards cells (tableAfter rule boards cells t a) (a .cell)
       ≡ stores (cellOf boards cells t (a .cell)) (effect (ruleOf rule) boards (cellOf boards cells t (a .cell)) (procOf a))
-  unfolding answer cellAfter seen
+  unfolding answerBy cellAfter seenBy
   after-is = step-here rule boards cells t a ∙ rw e
 
   -- Read answers the cache's value, every other action 0
   pub value-is : answer rule boards cells t a .value ≡ Value (asState (cellOf boards cells t (a .cell))) (procOf a)
-  unfolding answer seen
+  unfolding answerBy seenBy
   value-is =
       accepted-value rule boards cells (seen boards cells t (a .cell)) a e
       ∙ next-value (ruleOf rule) boards (cellOf boards cells t (a .cell)) (facts .sounds) (procOf a) (facts .among) (facts .guarded)
 
   -- main, every board's cache, dirty and lock
   pub state-is : asState (cellOf boards cells (tableAfter rule boards cells t a) (a .cell)) ≡ Effect (ruleOf rule) (asState (cellOf boards cells t (a .cell))) (procOf a)
-  unfolding seen
+  unfolding seenBy
   state-is = rw after-is (next-state (ruleOf rule) boards (cellOf boards cells t (a .cell)) (facts .sounds) (procOf a) (facts .among) (facts .guarded))
 
   -- and the cell stays sound
   pub sound-after : sound (ruleOf rule) boards (cellOf boards cells (tableAfter rule boards cells t a) (a .cell)) ≡ true
-  unfolding seen
+  unfolding seenBy
   sound-after = rw after-is (sound-kept (ruleOf rule) boards (cellOf boards cells t (a .cell)) (facts .sounds) (procOf a) (facts .among) (facts .guarded))
 
 -- every other cell stays as it was
@@ -179,7 +179,7 @@ pub only-next : (rule boards cells : ℕ) (t : Table) (a : Action) → answer ru
     asState (cellOf boards cells u (a .cell)) ≡ Effect (ruleOf rule) (asState (cellOf boards cells t (a .cell))) (procOf a) →
     ((d : ℕ) → d ≢ a .cell → cellOf boards cells u d ≡ cellOf boards cells t d) →
     u ≡ tableAfter rule boards cells t a
-unfolding seen
+unfolding seenBy
 only-next rule boards cells t a e u z U h others =
     same-table (cellByCell boards) boards cells (by-cell boards cells) u next (sizes-of boards cells u z)
     (sizes-of boards cells next (sizes-after rule boards cells t a ∙ facts rule boards cells t a e .sizes)) (λ c. go c (ℕ-discrete c (a .cell)))

@@ -13,9 +13,9 @@ use Rattle.protocol.specs.declared.Action.{Action}
 use Rattle.protocol.specs.Names.{ruleOf, procOf}
 use Rattle.protocol.specs.Slices.{Table}
 use Rattle.protocol.specs.Cell.{cellOf}
-use Rattle.protocol.specs.Step.{seen, answer, tableAfter}
+use Rattle.protocol.specs.Step.{seenBy, seen, answerBy, answer, tableAfter}
 use Rattle.protocol.specs.Fresh.{freshTable}
-use Rattle.protocol.specs.Runs.{CoherentRule, Line, lineOf, log, tableAfterAll, isRead, isWrite, acceptedRead, acceptedWrite, followed, written, writtenAfter, latestWrite}
+use Rattle.protocol.specs.Runs.{CoherentRule, Line, lineOf, logBy, log, tableAfterAll, isRead, isWrite, acceptedRead, acceptedWrite, followed, written, writtenAfter, latestWrite}
 use Rattle.protocol.specs.Handout.{State, IsCurrent, Current}
 use Rattle.protocol.specs.CoherentMemory.{Memory, returned, wrote, SKIP, Allowed, after, Run}
 use Rattle.protocol.specs.AsHandout.{asState, asEvent}
@@ -44,7 +44,7 @@ module _ (rule boards cells : ℕ) (co : CoherentRule rule) (t : Table) (a : Act
   -- accepted, the current value is kept or written
   current-accepted : (v : ℕ) → answer rule boards cells t a .number ≡ 0 → IsCurrent boards before v →
       IsCurrent boards (asState (cellOf boards cells (tableAfter rule boards cells t a) (a .cell))) (cond (isWrite (a .code)) (a .value) v)
-  unfolding answer seen
+  unfolding answerBy seenBy
   current-accepted v e c =
       let k = accepted rule boards cells (seen boards cells t (a .cell)) a e in
       let I = sound-exactly (ruleOf rule) boards _ .0 (k .sounds) .1 in
@@ -54,7 +54,7 @@ module _ (rule boards cells : ℕ) (co : CoherentRule rule) (t : Table) (a : Act
 
   -- an accepted Read answers the current value
   reads-current : (v : ℕ) → a .code ≡ 0 → answer rule boards cells t a .number ≡ 0 → IsCurrent boards before v → answer rule boards cells t a .value ≡ v
-  unfolding answer seen
+  unfolding answerBy seenBy
   reads-current v z e c =
       let k = accepted rule boards cells (seen boards cells t (a .cell)) a e in
       let I = sound-exactly (ruleOf rule) boards _ .0 (k .sounds) .1 in
@@ -118,7 +118,7 @@ module _ (rule boards cells : ℕ) (co : CoherentRule rule) where
 
   pub coherent-run : (t : Table) (actions : List Action) (m : Memory) → ((k : ℕ) → IsCurrent boards (asState (cellOf boards cells t k)) (m k)) →
       Run m (map asEvent (log rule boards cells t actions))
-  unfolding log
+  unfolding logBy
   coherent-run t [] m f = tt
   coherent-run t (a ∷ rest) m f = (
     allowed-line t a m f,

@@ -15,7 +15,7 @@ use Rattle.protocol.specs.Soundness.{sound}
 use Rattle.protocol.specs.First.{Refusal, firstNumber}
 use Rattle.protocol.specs.Guards.{guard}
 use Rattle.protocol.specs.Effects.{valueOf}
-use Rattle.protocol.specs.Step.{malformed, missing, offBoard, seen, refusals, answerTo, answer}
+use Rattle.protocol.specs.Step.{malformed, missing, offBoard, seenBy, seen, refusals, answerTo, answerBy, answer}
 use Rattle.protocol.proofs.FirstLaws.{first-number, conditionOf, before, behind, another, refused-with}
 use Rattle.protocol.proofs.StepLaws.{guard-every}
 
@@ -37,57 +37,57 @@ module _ (rule boards cells : ℕ) (t : Table) (a : Action) where
   -- where n is answered no condition before n's holds, and n's does
   refused : (n : ℕ) → n ≢ 0 → every (behind n rs) (another n) ≡ true → answer rule boards cells t a .number ≡ n →
       ((m : ℕ) → conditionOf m (before n rs) ≡ false) × (conditionOf n rs ≡ true)
-  unfolding answer answerTo seen
+  unfolding answerBy answerTo seenBy
   refused n h = refused-with n h ok refl rs
 
   told : answer rule boards cells t a .number ≡ firstNumber rs
-  unfolding answer answerTo seen
+  unfolding answerBy answerTo seenBy
   told = first-number rs ok refl
 
   pub answers-1 : (answer rule boards cells t a .number ≡ 1) ↔ (sizesGood boards cells t ≡ false)
-  unfolding refusals seen every
+  unfolding refusals seenBy every
   answers-1 = (
     (λ e. let f = refused 1 (omega arith) (no-test 1 (omega arith)) e in not-true _ (f .1)),
     λ s. told ∙ rw s,
   )
 
   pub answers-2 : (answer rule boards cells t a .number ≡ 2) ↔ ((sizesGood boards cells t ≡ true) × (lastRule < rule))
-  unfolding refusals seen every
+  unfolding refusals seenBy every
   answers-2 = (
     (λ e. let f = refused 2 (omega arith) (no-test 2 (omega arith)) e in (not-false _ (f .0 1), ltb-true lastRule rule (f .1))),
     λ s. told ∙ rw (s .0, lt-ltb lastRule rule (s .1)),
   )
 
   pub answers-3 : (answer rule boards cells t a .number ≡ 3) ↔ ((sizesGood boards cells t ≡ true) × (rule ≤ lastRule) × (malformed a ≡ true))
-  unfolding refusals seen every
+  unfolding refusals seenBy every
   answers-3 = (
     (λ e. let f = refused 3 (omega arith) (no-test 3 (omega arith)) e in (not-false _ (f .0 1), ltb-false lastRule rule (f .0 2), f .1)),
     λ s. told ∙ rw (s .0, le-ltb lastRule rule (s .1), s .2),
   )
 
   pub answers-4 : (answer rule boards cells t a .number ≡ 4) ↔ ((sizesGood boards cells t ≡ true) × (rule ≤ lastRule) × (malformed a ≡ false) × (missing rule (a .code) ≡ true))
-  unfolding refusals seen every
+  unfolding refusals seenBy every
   answers-4 = (
     (λ e. let f = refused 4 (omega arith) (no-test 4 (omega arith)) e in (not-false _ (f .0 1), ltb-false lastRule rule (f .0 2), f .0 3, f .1)),
     λ s. told ∙ rw (s .0, le-ltb lastRule rule (s .1), s .2, s .3),
   )
 
   pub answers-5 : (answer rule boards cells t a .number ≡ 5) ↔ ((sizesGood boards cells t ≡ true) × (rule ≤ lastRule) × (malformed a ≡ false) × (missing rule (a .code) ≡ false) × (offBoard boards a ≡ true))
-  unfolding refusals seen every
+  unfolding refusals seenBy every
   answers-5 = (
     (λ e. let f = refused 5 (omega arith) (no-test 5 (omega arith)) e in (not-false _ (f .0 1), ltb-false lastRule rule (f .0 2), f .0 3, f .0 4, f .1)),
     λ s. told ∙ rw (s .0, le-ltb lastRule rule (s .1), s .2, s .3, s .4),
   )
 
   pub answers-6 : (answer rule boards cells t a .number ≡ 6) ↔ ((sizesGood boards cells t ≡ true) × (rule ≤ lastRule) × (malformed a ≡ false) × (missing rule (a .code) ≡ false) × (offBoard boards a ≡ false) × (cells ≤ a .cell))
-  unfolding refusals seen every
+  unfolding refusals seenBy every
   answers-6 = (
     (λ e. let f = refused 6 (omega arith) (no-test 6 (omega arith)) e in (not-false _ (f .0 1), ltb-false lastRule rule (f .0 2), f .0 3, f .0 4, f .0 5, leb-true cells (a .cell) (f .1))),
     λ s. told ∙ rw (s .0, le-ltb lastRule rule (s .1), s .2, s .3, s .4, le-leb cells (a .cell) (s .5)),
   )
 
   pub answers-7 : (answer rule boards cells t a .number ≡ 7) ↔ ((sizesGood boards cells t ≡ true) × (rule ≤ lastRule) × (malformed a ≡ false) × (missing rule (a .code) ≡ false) × (offBoard boards a ≡ false) × (a .cell < cells) × (sound (ruleOf rule) boards (cellOf boards cells t (a .cell)) ≡ false))
-  unfolding refusals seen every
+  unfolding refusals seenBy every
   answers-7 = (
     (λ e. let f = refused 7 (omega arith) (no-test 7 (omega arith)) e in (not-false _ (f .0 1), ltb-false lastRule rule (f .0 2), f .0 3, f .0 4, f .0 5, leb-false cells (a .cell) (f .0 6), not-true _ (f .1))),
     λ s. told ∙ rw (s .0, le-ltb lastRule rule (s .1), s .2, s .3, s .4, lt-leb cells (a .cell) (s .5), s .6),
@@ -97,5 +97,5 @@ module _ (rule boards cells : ℕ) (t : Table) (a : Action) where
   pub answers-guard : (sizesGood boards cells t ≡ true) × (rule ≤ lastRule) × (malformed a ≡ false) × (missing rule (a .code) ≡ false) × (offBoard boards a ≡ false) × (a .cell < cells)
       × (sound (ruleOf rule) boards (cellOf boards cells t (a .cell)) ≡ true) →
       answer rule boards cells t a .number ≡ firstNumber (guard (cellOf boards cells t (a .cell)) (ruleOf rule) (procOf a))
-  unfolding refusals seen
+  unfolding refusals seenBy
   answers-guard s = told ∙ rw (s .0, le-ltb lastRule rule (s .1), s .2, s .3, s .4, lt-leb cells (a .cell) (s .5), s .6)

@@ -10,7 +10,7 @@ use Rattle.protocol.specs.declared.Action.{Action}
 use Rattle.protocol.specs.Slices.{Table}
 use Rattle.protocol.specs.Cell.{Cell, cellOf}
 use Rattle.protocol.specs.Step.{answer, tableAfter}
-use Rattle.protocol.specs.Runs.{lineOf, log, tableAfterAll, followedBy, followed}
+use Rattle.protocol.specs.Runs.{lineOf, logBy, log, tableAfterAllBy, tableAfterAll, followedBy, followed}
 use Rattle.protocol.proofs.StepLaws.{step-there}
 use Rattle.protocol.proofs.Demand1.{refused-changes-nothing}
 
@@ -27,6 +27,6 @@ module _ {S : Type 0} (rule boards cells : ℕ) (c : ℕ) (F : S → Cell → Ty
 
   pub run-tells : (s : S) (t : Table) (actions : List Action) → F s (cellOf boards cells t c) →
       F (followed c follow s (log rule boards cells t actions)) (cellOf boards cells (tableAfterAll rule boards cells t actions) c)
-  unfolding followed log tableAfterAll
+  unfolding followed logBy tableAfterAllBy
   run-tells s t [] f = f
   run-tells s t (a ∷ rest) f = run-tells (followedBy c follow s (lineOf rule boards cells t a)) (tableAfter rule boards cells t a) rest (line-tells s t a f)

@@ -9,7 +9,7 @@ use Rattle.protocol.specs.Names.{Drop, Release, lastRule, ruleOf, procOf
 use Rattle.protocol.specs.Masks.{hasBoard}
 use Rattle.protocol.specs.Slices.{Table}
 use Rattle.protocol.specs.Cell.{Cell, liveMask, lockMask, cellOf}
-use Rattle.protocol.specs.Step.{seen, refusals, answer, tableAfter}
+use Rattle.protocol.specs.Step.{seenBy, seen, refusals, answerBy, answer, tableAfter}
 use Rattle.protocol.specs.Handout.{Guard, Effect, Invariants, setAt}
 use Rattle.protocol.specs.AsHandout.{asState, NoOtherHolds}
 use Rattle.protocol.proofs.Booleans.{clash, not-so}
@@ -30,7 +30,7 @@ module _ (rule boards cells : ℕ) (t : Table) (a : Action) (quiet : NoOtherHold
   unchanged : Guard boards (asState (cellOf boards cells t (a .cell))) (ruleOf rule) (procOf a) →
       Effect (ruleOf rule) (asState (cellOf boards cells t (a .cell))) (procOf a) ≡ asState (cellOf boards cells t (a .cell)) →
       (answer rule boards cells t a .number ≡ 0) × (tableAfter rule boards cells t a ≡ t)
-  unfolding answer seen
+  unfolding answerBy seenBy
   unchanged g e =
       let ok = accepted-when-allowed rule boards cells t a quiet .1 g in
       let k = accepted rule boards cells (seen boards cells t (a .cell)) a ok in
@@ -38,7 +38,7 @@ module _ (rule boards cells : ℕ) (t : Table) (a : Action) (quiet : NoOtherHold
 
   pub drop-not-live : a .code ≡ 6 → hasBoard (liveMask (cellOf boards cells t (a .cell))) (a .board) ≡ false →
       (answer rule boards cells t a .number ≡ 0) × (tableAfter rule boards cells t a ≡ t)
-  unfolding seen
+  unfolding seenBy
   drop-not-live code not-live = unchanged (rw is-drop clean) (rw (is-drop, set-nothing (asState x .c) (a .board) none nil))
     where
       x : Cell
@@ -58,7 +58,7 @@ module _ (rule boards cells : ℕ) (t : Table) (a : Action) (quiet : NoOtherHold
 
   pub release-without-lock : 3 ≤ rule → a .code ≡ 8 → hasBoard (lockMask (cellOf boards cells t (a .cell))) (a .board) ≡ false →
       (answer rule boards cells t a .number ≡ 0) × (tableAfter rule boards cells t a ≡ t)
-  unfolding seen
+  unfolding seenBy
   release-without-lock late code not-held = unchanged (rw is-release allowed) (rw (is-release, set-nothing (asState x .lock) (a .board) false (unfold asState in not-held)))
     where
       x : Cell

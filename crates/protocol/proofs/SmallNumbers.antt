@@ -16,9 +16,9 @@ use Rattle.protocol.specs.Slices.{sliceNumber, Table}
 use Rattle.protocol.specs.Cell.{Cell, mainValue, copyAt, cellOf}
 use Rattle.protocol.specs.First.{Refusal, first, All}
 use Rattle.protocol.specs.Effects.{effect, valueOf}
-use Rattle.protocol.specs.Step.{Seen, seen, refusals, answerTo, answer, tableAfter}
+use Rattle.protocol.specs.Step.{Seen, seenBy, seen, refusals, answerTo, answerBy, answer, tableAfter}
 use Rattle.protocol.specs.Fresh.{freshTable}
-use Rattle.protocol.specs.Runs.{Line, log, isWrite}
+use Rattle.protocol.specs.Runs.{Line, logBy, log, isWrite}
 use Rattle.protocol.proofs.CurrentKept.{writtenBy}
 use Rattle.protocol.proofs.FirstLaws.{all-map}
 use Rattle.protocol.proofs.CellLaws.{store, stores}
@@ -109,7 +109,7 @@ module _ (bound : ℕ) where
     SmallTable t = (c : ℕ) → SmallCell (cellOf boards cells t c)
 
     step-small : (t : Table) (a : Action) → a .value < bound → SmallTable t → SmallTable (tableAfter rule boards cells t a)
-    unfolding seen
+    unfolding seenBy
     step-small t a v s c = go (ℕ-discrete c (a .cell))
       where
         go : Dec (c ≡ a .cell) → SmallCell (cellOf boards cells (tableAfter rule boards cells t a) c)
@@ -117,7 +117,7 @@ module _ (bound : ℕ) where
         go (no n) = rw (step-there rule boards cells t a c n) (s c)
 
     log-small : (t : Table) (l : List Action) → SmallTable t → SmallActions l → SmallLines (log rule boards cells t l)
-    unfolding log answer seen
+    unfolding logBy answerBy seenBy
     log-small t [] s k = tt
     log-small t (a ∷ l) s k =
         let o = answer-small (seen boards cells t (a .cell)) a (omega (arith, k .1)) (s (a .cell)) in

@@ -10,20 +10,20 @@ use borrow.Author.Tests.{eqb-true, ltb-false, leb-true, le-leb, leb-false, not-f
 use Rattle.protocol.specs.declared.Action.{Action}
 use Rattle.protocol.specs.declared.Answer.{Answer}
 use Rattle.protocol.specs.Names.{Rule, Proc, lastRule, lastCode, ruleOf, procOf}
-use Rattle.protocol.specs.Slices.{Table, every, sizesGood, cellByCell}
-use Rattle.protocol.specs.Cell.{Cell, cellOf}
+use Rattle.protocol.specs.Slices.{Table, Places, cellByCell, every, sizesGood}
+use Rattle.protocol.specs.Cell.{Cell, cellBy, cellOf}
 use Rattle.protocol.specs.Soundness.{sound}
 use Rattle.protocol.specs.First.{Refusal, when, All, Fails, NoneHolds}
 use Rattle.protocol.specs.Guards.{Test, notLive, isDirty, notDirty, dirtyElsewhere, onlyDirtyElsewhere, anotherCopy, lockedByAnother, lockHeld, lockNotHeld, notCurrent, stillLive}
 use Rattle.protocol.specs.Guards.{numberOf, refuses, tests, guard}
-use Rattle.protocol.specs.Effects.{effect, valueOf, storesIn}
-use Rattle.protocol.specs.Step.{Seen, seen, refusals, answerTo, answer, tableAfter}
+use Rattle.protocol.specs.Effects.{effect, valueOf, storesBy}
+use Rattle.protocol.specs.Step.{Seen, refusals, answerTo, seenBy, answerBy, tableAfterBy, seen, tableAfter}
 use Rattle.protocol.specs.Handout.{Guard}
 use Rattle.protocol.specs.AsHandout.{asState}
 use Rattle.protocol.proofs.Booleans.{and-left, and-right, and-both}
 use Rattle.protocol.proofs.FirstLaws.{all-map, all-of, Refuse, Silent, first-accepted, first-none, none-at, all-behind}
 use Rattle.protocol.proofs.HandoutLaws.{Among}
-use Rattle.protocol.proofs.PlaceLaws.{by-cell}
+use Rattle.protocol.proofs.PlaceLaws.{Proper, by-cell}
 use Rattle.protocol.proofs.CellLaws.{stores, sizes-of, same-sizes, length-stores, stores-here, stores-there}
 use Rattle.protocol.proofs.SoundExactly.{sound-exactly}
 use Rattle.protocol.proofs.GuardExactly.{guard-exactly}
@@ -128,41 +128,54 @@ module _ (rule boards cells : ℕ) (s : Seen) (a : Action) where
   unfoldable pub cellAfter : Cell
   cellAfter = cond (eqb (answerTo rule boards cells s a .number) 0) (stores (s .cell) (effect (ruleOf rule) boards (s .cell) (procOf a))) (s .cell)
 
--- ---- a step, seen from a cell
+-- ---- a step, seen from a cell, by any proper arrangement
+
+module _ (places : Places) (rule boards cells : ℕ) (t : Table) (a : Action) where
+  pub sizes-by : sizesGood boards cells (tableAfterBy places rule boards cells t a) ≡ sizesGood boards cells t
+  unfolding tableAfterBy
+  sizes-by = go (eqb (answerBy places rule boards cells t a .number) 0)
+    where
+      go : (b : Bool) → sizesGood boards cells (cond b (storesBy places (a .cell) t (effect (ruleOf rule) boards (cellBy places boards cells t (a .cell)) (procOf a))) t) ≡ sizesGood boards cells t
+      go true = same-sizes boards cells t _ (length-stores places (a .cell) t _)
+      go false = refl
+
+  module _ (ok : Proper places boards cells) where
+    pub here-by : cellBy places boards cells (tableAfterBy places rule boards cells t a) (a .cell) ≡ cellAfter rule boards cells (seenBy places boards cells t (a .cell)) a
+    unfolding tableAfterBy answerBy cellAfter seenBy
+    here-by = go (eqb (answerBy places rule boards cells t a .number) 0) refl
+      where
+        x : Cell
+        x = cellBy places boards cells t (a .cell)
+
+        go : (b : Bool) → eqb (answerBy places rule boards cells t a .number) 0 ≡ b →
+            cellBy places boards cells (cond b (storesBy places (a .cell) t (effect (ruleOf rule) boards x (procOf a))) t) (a .cell) ≡ cond b (stores x (effect (ruleOf rule) boards x (procOf a))) x
+        go true e =
+            let k = accepted rule boards cells (seenBy places boards cells t (a .cell)) a (eqb-true _ _ e) in
+            stores-here places boards cells ok (a .cell) (k .inside) t _ (sizes-of boards cells t (k .sizes)) (effect-fits (ruleOf rule) boards x (procOf a) (k .among))
+        go false e = refl
+
+    pub there-by : (d : ℕ) → d ≢ a .cell → cellBy places boards cells (tableAfterBy places rule boards cells t a) d ≡ cellBy places boards cells t d
+    unfolding tableAfterBy answerBy seenBy
+    there-by d n = go (eqb (answerBy places rule boards cells t a .number) 0) refl
+      where
+        x : Cell
+        x = cellBy places boards cells t (a .cell)
+
+        go : (b : Bool) → eqb (answerBy places rule boards cells t a .number) 0 ≡ b →
+            cellBy places boards cells (cond b (storesBy places (a .cell) t (effect (ruleOf rule) boards x (procOf a))) t) d ≡ cellBy places boards cells t d
+        go true e =
+            let k = accepted rule boards cells (seenBy places boards cells t (a .cell)) a (eqb-true _ _ e) in
+            stores-there places boards cells ok (a .cell) (k .inside) t _ d (sizes-of boards cells t (k .sizes)) (effect-fits (ruleOf rule) boards x (procOf a) (k .among)) n
+        go false e = refl
+
+-- ---- by document 01's
 
 module _ (rule boards cells : ℕ) (t : Table) (a : Action) where
   pub step-sizes : sizesGood boards cells (tableAfter rule boards cells t a) ≡ sizesGood boards cells t
-  unfolding tableAfter
-  step-sizes = go (eqb (answer rule boards cells t a .number) 0)
-    where
-      go : (b : Bool) → sizesGood boards cells (cond b (storesIn boards (a .cell) t (effect (ruleOf rule) boards (cellOf boards cells t (a .cell)) (procOf a))) t) ≡ sizesGood boards cells t
-      go true = same-sizes boards cells t _ (length-stores (cellByCell boards) (a .cell) t _)
-      go false = refl
+  step-sizes = sizes-by (cellByCell boards) rule boards cells t a
 
   pub step-here : cellOf boards cells (tableAfter rule boards cells t a) (a .cell) ≡ cellAfter rule boards cells (seen boards cells t (a .cell)) a
-  unfolding tableAfter answer cellAfter seen
-  step-here = go (eqb (answer rule boards cells t a .number) 0) refl
-    where
-      x : Cell
-      x = cellOf boards cells t (a .cell)
-
-      go : (b : Bool) → eqb (answer rule boards cells t a .number) 0 ≡ b →
-          cellOf boards cells (cond b (storesIn boards (a .cell) t (effect (ruleOf rule) boards x (procOf a))) t) (a .cell) ≡ cond b (stores x (effect (ruleOf rule) boards x (procOf a))) x
-      go true e =
-          let k = accepted rule boards cells (seen boards cells t (a .cell)) a (eqb-true _ _ e) in
-          stores-here (cellByCell boards) boards cells (by-cell boards cells) (a .cell) (k .inside) t _ (sizes-of boards cells t (k .sizes)) (effect-fits (ruleOf rule) boards x (procOf a) (k .among))
-      go false e = refl
+  step-here = here-by (cellByCell boards) rule boards cells t a (by-cell boards cells)
 
   pub step-there : (d : ℕ) → d ≢ a .cell → cellOf boards cells (tableAfter rule boards cells t a) d ≡ cellOf boards cells t d
-  unfolding tableAfter answer seen
-  step-there d n = go (eqb (answer rule boards cells t a .number) 0) refl
-    where
-      x : Cell
-      x = cellOf boards cells t (a .cell)
-
-      go : (b : Bool) → eqb (answer rule boards cells t a .number) 0 ≡ b →
-          cellOf boards cells (cond b (storesIn boards (a .cell) t (effect (ruleOf rule) boards x (procOf a))) t) d ≡ cellOf boards cells t d
-      go true e =
-          let k = accepted rule boards cells (seen boards cells t (a .cell)) a (eqb-true _ _ e) in
-          stores-there (cellByCell boards) boards cells (by-cell boards cells) (a .cell) (k .inside) t _ d (sizes-of boards cells t (k .sizes)) (effect-fits (ruleOf rule) boards x (procOf a) (k .among)) n
-      go false e = refl
+  step-there = there-by (cellByCell boards) rule boards cells t a (by-cell boards cells)

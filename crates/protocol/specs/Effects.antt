@@ -60,5 +60,6 @@ unfoldable pub storesBy : Places → (cell : ℕ) → Table → List Store → T
 storesBy places cell t [] = t
 storesBy places cell t (e ∷ es) = storesBy places cell (storeBy places cell t e) es
 
+-- and by document 01's
 abbrev pub storesIn : (boards cell : ℕ) → Table → List Store → Table
 storesIn boards = storesBy (cellByCell boards)

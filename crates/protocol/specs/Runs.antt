@@ -6,29 +6,41 @@ use lib.Dec.{eqb}
 use Rattle.protocol.specs.declared.Action.{Action}
 use Rattle.protocol.specs.declared.Answer.{Answer}
 use Rattle.protocol.specs.Names.{lastRule}
-use Rattle.protocol.specs.Slices.{Table}
-use Rattle.protocol.specs.Step.{answer, tableAfter}
+use Rattle.protocol.specs.Slices.{Table, Places, cellByCell}
+use Rattle.protocol.specs.Step.{answerBy, tableAfterBy}
 
 -- "Rules 1 to 4 are the coherent ones"
 abbrev pub CoherentRule : (rule : ℕ) → Type 0
 CoherentRule rule = (1 ≤ rule) × (rule ≤ lastRule)
-
-unfoldable pub tableAfterAll : (rule boards cells : ℕ) → Table → List Action → Table
-tableAfterAll rule boards cells t [] = t
-tableAfterAll rule boards cells t (a ∷ rest) = tableAfterAll rule boards cells (tableAfter rule boards cells t a) rest
 
 -- a line of a log: an action, and what its caller was told
 pub record Line : Type 0 where
   pub action : Action
   pub told : Answer
 
--- the line that an action adds
-abbrev pub lineOf : (rule boards cells : ℕ) → Table → Action → Line
-lineOf rule boards cells t a = record { action = a; told = answer rule boards cells t a }
+-- the run by any arrangement of the table
+module _ (places : Places) where
+  unfoldable pub tableAfterAllBy : (rule boards cells : ℕ) → Table → List Action → Table
+  tableAfterAllBy rule boards cells t [] = t
+  tableAfterAllBy rule boards cells t (a ∷ rest) = tableAfterAllBy rule boards cells (tableAfterBy places rule boards cells t a) rest
 
-unfoldable pub log : (rule boards cells : ℕ) → Table → List Action → List Line
-log rule boards cells t [] = []
-log rule boards cells t (a ∷ rest) = lineOf rule boards cells t a ∷ log rule boards cells (tableAfter rule boards cells t a) rest
+  -- the line that an action adds
+  abbrev pub lineBy : (rule boards cells : ℕ) → Table → Action → Line
+  lineBy rule boards cells t a = record { action = a; told = answerBy places rule boards cells t a }
+
+  unfoldable pub logBy : (rule boards cells : ℕ) → Table → List Action → List Line
+  logBy rule boards cells t [] = []
+  logBy rule boards cells t (a ∷ rest) = lineBy rule boards cells t a ∷ logBy rule boards cells (tableAfterBy places rule boards cells t a) rest
+
+-- and by document 01's
+abbrev pub tableAfterAll : (rule boards cells : ℕ) → Table → List Action → Table
+tableAfterAll rule boards cells = tableAfterAllBy (cellByCell boards) rule boards cells
+
+abbrev pub lineOf : (rule boards cells : ℕ) → Table → Action → Line
+lineOf rule boards cells = lineBy (cellByCell boards) rule boards cells
+
+abbrev pub log : (rule boards cells : ℕ) → Table → List Action → List Line
+log rule boards cells = logBy (cellByCell boards) rule boards cells
 
 unfoldable pub isRead : (code : ℕ) → Bool
 isRead code = eqb code 0

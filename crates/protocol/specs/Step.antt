@@ -6,12 +6,12 @@ use lib.Dec.{eqb, ltb, leb}
 use Rattle.protocol.specs.declared.Action.{Action}
 use Rattle.protocol.specs.declared.Answer.{Answer}
 use Rattle.protocol.specs.Names.{lastRule, lastCode, ruleOf, procOf}
-use Rattle.protocol.specs.Slices.{Table, sizesGood}
-use Rattle.protocol.specs.Cell.{Cell, cellOf}
+use Rattle.protocol.specs.Slices.{Table, Places, cellByCell, sizesGood}
+use Rattle.protocol.specs.Cell.{Cell, cellBy}
 use Rattle.protocol.specs.Soundness.{sound}
 use Rattle.protocol.specs.First.{Refusal, when, first}
 use Rattle.protocol.specs.Guards.{guard}
-use Rattle.protocol.specs.Effects.{effect, valueOf, storesIn}
+use Rattle.protocol.specs.Effects.{effect, valueOf, storesBy}
 
 -- "code above 8, or an unused field not 0": q is used by code 5 only, value by code 1 only
 unfoldable pub malformed : Action → Bool
@@ -30,9 +30,6 @@ pub record Seen : Type 0 where
   pub sizes : Bool
   pub cell : Cell
 
-unfoldable pub seen : (boards cells : ℕ) → Table → (cell : ℕ) → Seen
-seen boards cells t cell = record { sizes = sizesGood boards cells t; cell = cellOf boards cells t cell }
-
 -- "For an action the order is 1 to 7, then the guard"
 unfoldable pub refusals : (rule boards cells : ℕ) → Seen → Action → List Refusal
 refusals rule boards cells s a =
@@ -48,12 +45,27 @@ refusals rule boards cells s a =
 unfoldable pub answerTo : (rule boards cells : ℕ) → Seen → Action → Answer
 answerTo rule boards cells s a = first (refusals rule boards cells s a) (record { number = 0; value = valueOf (s .cell) (procOf a) })
 
-unfoldable pub answer : (rule boards cells : ℕ) → Table → Action → Answer
-answer rule boards cells t a = answerTo rule boards cells (seen boards cells t (a .cell)) a
+-- the step by any arrangement of the table
+module _ (places : Places) where
+  unfoldable pub seenBy : (boards cells : ℕ) → Table → (cell : ℕ) → Seen
+  seenBy boards cells t cell = record { sizes = sizesGood boards cells t; cell = cellBy places boards cells t cell }
 
--- accepted, the action's effect is stored; "a refusal changes nothing lent"
-unfoldable pub tableAfter : (rule boards cells : ℕ) → Table → Action → Table
-tableAfter rule boards cells t a =
-    cond (eqb (answer rule boards cells t a .number) 0)
-    (storesIn boards (a .cell) t (effect (ruleOf rule) boards (cellOf boards cells t (a .cell)) (procOf a)))
-    t
+  unfoldable pub answerBy : (rule boards cells : ℕ) → Table → Action → Answer
+  answerBy rule boards cells t a = answerTo rule boards cells (seenBy boards cells t (a .cell)) a
+
+  -- accepted, the action's effect is stored; "a refusal changes nothing lent"
+  unfoldable pub tableAfterBy : (rule boards cells : ℕ) → Table → Action → Table
+  tableAfterBy rule boards cells t a =
+      cond (eqb (answerBy rule boards cells t a .number) 0)
+      (storesBy places (a .cell) t (effect (ruleOf rule) boards (cellBy places boards cells t (a .cell)) (procOf a)))
+      t
+
+-- and by document 01's
+abbrev pub seen : (boards cells : ℕ) → Table → (cell : ℕ) → Seen
+seen boards cells = seenBy (cellByCell boards) boards cells
+
+abbrev pub answer : (rule boards cells : ℕ) → Table → Action → Answer
+answer rule boards cells = answerBy (cellByCell boards) rule boards cells
+
+abbrev pub tableAfter : (rule boards cells : ℕ) → Table → Action → Table
+tableAfter rule boards cells = tableAfterBy (cellByCell boards) rule boards cells

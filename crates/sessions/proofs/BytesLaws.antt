@@ -1,19 +1,42 @@
 -- Laws of the numbers that are read from a run of bytes, one more at a time. Assumes nothing.
 use mathlib.Core.Path.{_≡_, refl, ap, sym, _∙_}
 use mathlib.Core.List.{List, [], _∷_, _++_}
-use Prim.Native.Nat.{ℕ, zero, suc, _+_, _*_, _<_, _≤_}
+use Prim.Native.Nat.{ℕ, zero, suc, _+_, _*_, _/_, _<_, _≤_}
 use native.Mathlib.Numerals.{add-one}
 use native.Mathlib.Omega.{arith}
-use lib.ListN.{length, getD, drop, set}
+use lib.ListN.{length, getD, drop, set, length-drop}
 use lib.Seq.{drop-cons, set-at, append-snoc}
 use borrow.Author.Tests.{le-ltb}
-use Rattle.sessions.specs.File.{boardsIn, cellsIn, le32, values, startingIn}
-use Rattle.sessions.specs.declared.Sizes.{Sizes}
-use Rattle.sessions.specs.Statements.{SizesIn}
+use Rattle.sessions.specs.File.{ruleIn, boardsIn, cellsIn, le32, values, startingIn, recordsAt}
+use Rattle.sessions.specs.FileRefusals.{countIn}
+use Rattle.sessions.specs.declared.Head.{Head}
+use Rattle.sessions.specs.Statements.{HeadOf}
 
--- P and N, of a file that has its first nine bytes
-pub sizes-are : (file : List ℕ) (r : Sizes) → SizesIn file r → 9 ≤ length file → (r .boards ≡ boardsIn file) × (r .cells ≡ cellsIn file)
-sizes-are file r s h = let e = le-ltb (length file) 9 h in (s .boards-is ∙ rw e, s .cells-is ∙ rw e)
+-- the head of a file that has its first nine bytes
+pub record Says (file : List ℕ) (r : Head) : Type 0 where
+  pub says-rule : r .rule ≡ ruleIn file
+  pub says-boards : r .boards ≡ boardsIn file
+  pub says-cells : r .cells ≡ cellsIn file
+  pub says-from : r .from ≡ recordsAt (cellsIn file)
+  pub says-count : r .count ≡ countIn file
+
+pub head-made : (file : List ℕ) → 9 ≤ length file → (cells from : ℕ) (records : List ℕ) → cells ≡ cellsIn file → cells < 65536 → from ≡ recordsAt cells → records ≡ drop from file →
+    HeadOf file (record { rule = ruleIn file; boards = boardsIn file; cells = cells; from = from; count = length records / 9 })
+head-made file h cells from records c few f r =
+    let e = le-ltb (length file) 9 h in
+    record {
+      rule-is = rw e;
+      boards-is = rw e;
+      cells-is = rw e c;
+      from-is = rw e (f ∙ ap recordsAt c);
+      count-is = rw (e, r, length-drop from file, f, c);
+      few-cells = few;
+    }
+
+pub head-says : (file : List ℕ) (r : Head) → HeadOf file r → 9 ≤ length file → Says file r
+head-says file r s h =
+    let e = le-ltb (length file) 9 h in
+    record { says-rule = s .rule-is ∙ rw e; says-boards = s .boards-is ∙ rw e; says-cells = s .cells-is ∙ rw e; says-from = s .from-is ∙ rw e; says-count = s .count-is ∙ rw e }
 
 -- a slice that is filled from its start
 pub fill-more : (xs : List ℕ) (v : ℕ) (old : List ℕ) (n : ℕ) → length xs ≡ n → n < length old → set (xs ++ drop n old) n v ≡ (xs ++ (v ∷ [])) ++ drop (n + 1) old

@@ -19,11 +19,12 @@ use Rattle.table.proofs.Promises.{held, fresh-gives}
 use Rattle.sessions.specs.File.{ruleIn, boardsIn, cellsIn, startingIn, recordsIn, actionsIn}
 use Rattle.sessions.specs.FileRefusals.{countIn, runRefusals}
 use Rattle.sessions.specs.Run.{actionsOf, logOf, endOf, staleIn, staleOf}
+use Rattle.sessions.specs.declared.Head.{Head}
 use Rattle.sessions.specs.declared.Report.{Report}
 use Rattle.sessions.specs.Statements.{Runs}
 use Rattle.sessions.specs.Code.{Prepared, Counted, CountsStale, Ran, Finished}
 use Rattle.sessions.proofs.AcceptedLaws.{Runnable, few-records}
-use Rattle.sessions.proofs.BytesLaws.{length-starting}
+use Rattle.sessions.proofs.BytesLaws.{Says, length-starting}
 use Rattle.sessions.proofs.RunLaws.{length-actions}
 
 module _ (file : List ℕ) (t : Table) (numbers values : List ℕ) (ok : Runnable file t (length numbers) (length values)) where
@@ -38,13 +39,13 @@ module _ (file : List ℕ) (t : Table) (numbers values : List ℕ) (ok : Runnabl
     room-latest = omega arith;
   }
 
-  module _ (p n : ℕ) (is-p : p ≡ boardsIn file) (is-n : n ≡ cellsIn file) (latest₁ : List ℕ) (is-latest : latest₁ ≡ startingIn file) (fresh : Answer) (t₁ : Table)
-      (made : Freshens p n t latest₁ fresh t₁) where
+  module _ (head : Head) (says : Says file head) (latest₁ : List ℕ) (is-latest : latest₁ ≡ startingIn file) (fresh : Answer) (t₁ : Table)
+      (made : Freshens (head .boards) (head .cells) t latest₁ fresh t₁) where
     abbrev start : Table
     start = freshTable (boardsIn file) (startingIn file)
 
     made′ : Freshens (boardsIn file) (cellsIn file) t (startingIn file) fresh t₁
-    made′ = rw (is-p, is-n, is-latest) at made
+    made′ = rw (says .says-boards, says .says-cells, is-latest) at made
 
     fresh-0 : fresh .number ≡ 0
     fresh-0 = made′ .number ∙ fresh-accepted (boardsIn file) (cellsIn file) (startingIn file) t .1 (ok .sized, length-starting file)
@@ -53,9 +54,9 @@ module _ (file : List ℕ) (t : Table) (numbers values : List ℕ) (ok : Runnabl
     is-start = fresh-gives (boardsIn file) (cellsIn file) t (startingIn file) fresh t₁ made′ fresh-0
 
     module _ (records : List ℕ) (is-records : records ≡ recordsIn file) (accepted : ℕ) (t₂ : Table) (numbers₂ values₂ latest₂ : List ℕ)
-        (ran : Ran (ruleIn file) p n t₁ numbers values latest₁ (actionsIn records) accepted t₂ numbers₂ values₂ latest₂) where
+        (ran : Ran (head .rule) (head .boards) (head .cells) t₁ numbers values latest₁ (actionsIn records) accepted t₂ numbers₂ values₂ latest₂) where
       ran′ : Ran (ruleIn file) (boardsIn file) (cellsIn file) t₁ numbers values (startingIn file) (actionsOf file) accepted t₂ numbers₂ values₂ latest₂
-      ran′ = rw (is-p, is-n, is-latest, is-records) at ran
+      ran′ = rw (says .says-rule, says .says-boards, says .says-cells, is-latest, is-records) at ran
 
       ends : Holds t₂ (endOf file)
       unfolding endOf
@@ -71,26 +72,26 @@ module _ (file : List ℕ) (t : Table) (numbers values : List ℕ) (ok : Runnabl
       counted : length (actionsOf file) ≡ countIn file
       counted = length-actions (recordsIn file) 0 (length (recordsIn file) / 9) ∙ few-in
 
-      pub countable : Counted p n (t₂ copies) (t₂ masks) latest₂
+      pub countable : Counted (head .boards) (head .cells) (t₂ copies) (t₂ masks) latest₂
       unfolding width
       countable =
           let lengths = sizes-exactly (boardsIn file) (cellsIn file) (endOf file) .0 end-good .1 in
           record {
-            few-boards = rw is-p (ok .readable-too .sizes .few-boards);
-            few-cells = rw is-n (ok .readable-too .sizes .few-cells);
-            copied = rw (is-p, is-n, ends copies) (lengths copies);
-            masked = rw (is-n, ends masks) (lengths masks);
-            known = rw (ran .same-length, is-n, is-latest, length-starting file) (omega arith);
+            few-boards = rw (says .says-boards) (ok .readable-too .sizes .few-boards);
+            few-cells = rw (says .says-cells) (ok .readable-too .sizes .few-cells);
+            copied = rw (says .says-boards, says .says-cells, ends copies) (lengths copies);
+            masked = rw (says .says-cells, ends masks) (lengths masks);
+            known = rw (ran .same-length, says .says-cells, is-latest, length-starting file) (omega arith);
           }
 
-      pub finished : (stale : ℕ) → CountsStale p n (t₂ copies) (t₂ masks) latest₂ stale →
-          Finished file numbers values (record { number = fresh .number; accepted = accepted; stale = stale }) t₂ numbers₂ values₂
+      pub finished : (stale : ℕ) → CountsStale (head .boards) (head .cells) (t₂ copies) (t₂ masks) latest₂ stale →
+          Finished file numbers values (record { number = 0; accepted = accepted; stale = stale }) t₂ numbers₂ values₂
       unfolding logOf staleOf
       finished stale s = record {
-        number-is = fresh-0;
+        number-is = refl;
         accepted-is = rw is-start at (ran′ .accepted);
         stale-is =
-            rw (is-p, is-n) at (s t₂ refl refl (rw (is-p, is-n, is-end) end-good))
+            rw (says .says-boards, says .says-cells) at (s t₂ refl refl (rw (says .says-boards, says .says-cells, is-end) end-good))
             ∙ rw is-end (ap (staleIn (boardsIn file) (cellsIn file) (endOf file)) (fun-ext (λ c. rw is-start at (ran′ .latest-are c))));
         table-is = ends;
         numbers-are = rw (is-start, counted) at (ran′ .numbers-are);

@@ -9,7 +9,7 @@ use borrow.Author.Tests.{eq-eqb}
 use Rattle.protocol.specs.Slices.{Table}
 use Rattle.protocol.specs.Step.{tableAfter}
 use Rattle.protocol.specs.Fresh.{freshTable}
-use Rattle.protocol.specs.Runs.{Line, log}
+use Rattle.protocol.specs.Runs.{Line, logBy, log}
 use Rattle.sessions.specs.File.{ruleIn, boardsIn, cellsIn, startingIn, recordsIn, actionAt, actions}
 use Rattle.sessions.specs.FileRefusals.{countIn}
 use Rattle.sessions.specs.Run.{actionsOf, logOf, noLine, lineOfRecord, recordOf}
@@ -21,7 +21,7 @@ use Rattle.sessions.proofs.RunLaws.{length-actions, length-log}
 
 -- the i-th line is of the i-th record
 action-logged : (rule boards cells : ℕ) (t : Table) (records : List ℕ) (at n i : ℕ) → i < n → getD (log rule boards cells t (actions records at n)) i noLine .action ≡ actionAt records (at + 9 * i)
-unfolding log actions
+unfolding logBy actions
 action-logged rule boards cells t records at zero i h = absurd (omega arith)
 action-logged rule boards cells t records at (suc n) zero h = let e : at + 9 * 0 ≡ at = omega arith in rw e
 action-logged rule boards cells t records at (suc n) (suc i) h =

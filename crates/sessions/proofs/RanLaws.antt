@@ -14,8 +14,8 @@ use borrow.Author.Tests.{eq-eqb, ne-eqb}
 use Rattle.protocol.specs.declared.Action.{Action}
 use Rattle.protocol.specs.declared.Answer.{Answer}
 use Rattle.protocol.specs.Slices.{Table}
-use Rattle.protocol.specs.Step.{seen, answer}
-use Rattle.protocol.specs.Runs.{Line, lineOf, log, tableAfterAll, isWrite, followed, writtenAfter, latestWrite}
+use Rattle.protocol.specs.Step.{seen, answerBy, answer}
+use Rattle.protocol.specs.Runs.{Line, lineOf, logBy, log, tableAfterAllBy, tableAfterAll, isWrite, followed, writtenAfter, latestWrite}
 use Rattle.protocol.proofs.Booleans.{same-choice}
 use Rattle.protocol.proofs.StepLaws.{accepted}
 use Rattle.table.specs.Statements.{Steps}
@@ -57,11 +57,11 @@ written-told c v a n x told e = rw e
 module _ (rule boards cells : ℕ) where
   -- an accepted action names a cell of the table
   pub accepted-inside : (t : Table) (a : Action) (told : Answer) (t′ : Table) → Steps boards cells t rule a told t′ → told .number ≡ 0 → a .cell < cells
-  unfolding answer
+  unfolding answerBy
   accepted-inside t a told t′ s e = accepted rule boards cells (seen boards cells t (a .cell)) a (sym (s .number) ∙ e) .inside
 
   pub ran-none : (t : Table) (numbers values latest : List ℕ) → Ran rule boards cells t numbers values latest [] 0 t numbers values latest
-  unfolding log tableAfterAll acceptedIn latestWrite followed
+  unfolding logBy tableAfterAllBy acceptedIn latestWrite followed
   ran-none t numbers values latest =
       record { accepted = refl; table = λ s. refl; numbers-are = refl; values-are = refl; same-length = refl; latest-are = λ c. refl }
 

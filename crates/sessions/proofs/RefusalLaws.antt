@@ -3,16 +3,17 @@ use mathlib.Core.Path.{_≡_, refl, sym, _∙_}
 use mathlib.Core.Logic.{_≢_}
 use mathlib.Core.Bool.{Bool, true, false, not, cond, _||_}
 use mathlib.Core.List.{List, [], _∷_, _++_}
-use Prim.Native.Nat.{ℕ, _+_, _-_, _*_, _/_, _<_, _≤_}
+use Prim.Native.Nat.{ℕ, _+_, _*_, _/_, _<_, _≤_}
 use lib.Dec.{eqb, ltb}
 use lib.ListN.{length}
 use borrow.Author.Tests.{ltb-false, lt-ltb, le-ltb}
 use Rattle.protocol.specs.First.{Refusal, when, firstNumber, NoneHolds}
 use Rattle.protocol.specs.Slices.{Table, every, inRange, sizesGood}
-use Rattle.protocol.proofs.Booleans.{or-left}
 use Rattle.protocol.proofs.FirstLaws.{Refuse, refuse-of}
 use Rattle.sessions.specs.File.{boardsIn, cellsIn, ruleIn}
 use Rattle.sessions.specs.FileRefusals.{headRefusals, bodyRefusals, recordsBad, bodyBad, readRefusals, countIn, runRefusals, writeRefusals}
+use Rattle.sessions.specs.declared.Head.{Head}
+use Rattle.sessions.proofs.BytesLaws.{Says}
 use Rattle.sessions.proofs.AcceptedLaws.{none-refuses, good-sizes, few-records}
 
 -- the first list refuses: the second is not looked at
@@ -53,10 +54,10 @@ module _ (file : List ℕ) where
   head-answers lent h = sym (refused-before (headRefusals file) (bodyRefusals (not (inRange (boardsIn file) (cellsIn file)) || not (eqb lent (cellsIn file))) (ruleIn file) (bodyBad file)) h)
 
   -- past the first nine bytes the rest of the list answers
-  pub body-answers : (lent p n : ℕ) (range body : Bool) → firstNumber (headRefusals file) ≡ 0 → (p ≡ boardsIn file) × (n ≡ cellsIn file) → range ≡ inRange p n → body ≡ bodyBad file
-      → firstNumber (bodyRefusals (not range || not (eqb lent n)) (ruleIn file) body) ≡ firstNumber (readRefusals file lent)
+  pub body-answers : (lent : ℕ) (head : Head) (range body : Bool) → firstNumber (headRefusals file) ≡ 0 → Says file head → range ≡ inRange (head .boards) (head .cells) → body ≡ bodyBad file
+      → firstNumber (bodyRefusals (not range || not (eqb lent (head .cells))) (head .rule) body) ≡ firstNumber (readRefusals file lent)
   unfolding readRefusals
-  body-answers lent p n range body e s r b = rw (r, b, s .0, s .1) (sym (passed (headRefusals file) (bodyRefusals (not (inRange (boardsIn file) (cellsIn file)) || not (eqb lent (cellsIn file))) (ruleIn file) (bodyBad file)) heads e))
+  body-answers lent head range body e s r b = rw (r, b, s .says-boards, s .says-cells, s .says-rule) (sym (passed (headRefusals file) (bodyRefusals (not (inRange (boardsIn file) (cellsIn file)) || not (eqb lent (cellsIn file))) (ruleIn file) (bodyBad file)) heads e))
 
   -- ---- the run
 
@@ -64,12 +65,9 @@ module _ (file : List ℕ) where
     abbrev pub sized : List Refusal
     sized = bodyRefusals (not (sizesGood (boardsIn file) (cellsIn file) t)) (ruleIn file) (bodyBad file)
 
-    pub sized-is : (p n : ℕ) (fits body : Bool) → (p ≡ boardsIn file) × (n ≡ cellsIn file) → fits ≡ sizesGood p n t → body ≡ bodyBad file → firstNumber (bodyRefusals (not fits) (ruleIn file) body) ≡ firstNumber sized
-    sized-is p n fits body s f b = rw (f, b, s .0, s .1)
-
-    pub run-long : firstNumber sized ≡ 0 → 9 + 4 * cellsIn file ≤ length file
-    unfolding bodyRefusals bodyBad
-    run-long e = ltb-false _ _ (or-left (ltb (length file) (9 + 4 * cellsIn file)) (recordsBad (length file - (9 + 4 * cellsIn file))) (none-refuses sized (bodies (not (sizesGood (boardsIn file) (cellsIn file) t)) (ruleIn file) (bodyBad file)) .0 e .1 .1 .0))
+    pub sized-is : (head : Head) (fits body : Bool) → Says file head → fits ≡ sizesGood (head .boards) (head .cells) t → body ≡ bodyBad file →
+        firstNumber (bodyRefusals (not fits) (head .rule) body) ≡ firstNumber sized
+    sized-is head fits body s f b = rw (f, b, s .says-boards, s .says-cells, s .says-rule)
 
     module _ (numbers values : ℕ) where
       abbrev room : List Refusal
@@ -84,10 +82,10 @@ module _ (file : List ℕ) where
       run-body e h = sym (passed (headRefusals file) (sized ++ room) heads e ∙ refused-before sized room h)
 
       -- past the body the room answers; count is that of the records
-      pub run-room : (n : ℕ) (short : Bool) → n ≡ cellsIn file → (ltb numbers ((length file - (9 + 4 * n)) / 9) || ltb values ((length file - (9 + 4 * n)) / 9)) ≡ short →
+      pub run-room : (count : ℕ) (short : Bool) → count ≡ countIn file → (ltb numbers count || ltb values count) ≡ short →
           firstNumber (headRefusals file) ≡ 0 → firstNumber sized ≡ 0 → cond short 20 0 ≡ firstNumber (runRefusals file t numbers values)
       unfolding runRefusals
-      run-room n short c h e d = rw (sym h, c) (sym (passed (headRefusals file) (sized ++ room) heads e ∙ passed sized room (bodies _ _ _) d))
+      run-room count short c h e d = rw (sym h, c) (sym (passed (headRefusals file) (sized ++ room) heads e ∙ passed sized room (bodies _ _ _) d))
 
 -- ---- the writer
 

@@ -9,7 +9,7 @@ use lib.ListN.{length}
 use Rattle.protocol.specs.declared.Action.{Action}
 use Rattle.protocol.specs.Slices.{Table}
 use Rattle.protocol.specs.Step.{tableAfter}
-use Rattle.protocol.specs.Runs.{Line, lineOf, log, tableAfterAll, followed, writtenAfter, latestWrite}
+use Rattle.protocol.specs.Runs.{Line, lineOf, logBy, log, tableAfterAllBy, tableAfterAll, followed, writtenAfter, latestWrite}
 use Rattle.sessions.specs.File.{actionAt, actions}
 use Rattle.sessions.specs.Run.{acceptedIn}
 
@@ -31,18 +31,18 @@ actions-more s at (suc n) =
 
 module _ (rule boards cells : ℕ) where
   pub table-more : (t : Table) (l : List Action) (a : Action) → tableAfterAll rule boards cells t (l ++ (a ∷ [])) ≡ tableAfter rule boards cells (tableAfterAll rule boards cells t l) a
-  unfolding tableAfterAll
+  unfolding tableAfterAllBy
   table-more t [] a = refl
   table-more t (b ∷ l) a = table-more (tableAfter rule boards cells t b) l a
 
   pub log-more : (t : Table) (l : List Action) (a : Action) →
       log rule boards cells t (l ++ (a ∷ [])) ≡ log rule boards cells t l ++ (lineOf rule boards cells (tableAfterAll rule boards cells t l) a ∷ [])
-  unfolding log tableAfterAll
+  unfolding logBy tableAfterAllBy
   log-more t [] a = refl
   log-more t (b ∷ l) a = ap (λ (ls : List Line). lineOf rule boards cells t b ∷ ls) (log-more (tableAfter rule boards cells t b) l a)
 
   pub length-log : (t : Table) (l : List Action) → length (log rule boards cells t l) ≡ length l
-  unfolding log
+  unfolding logBy
   length-log t [] = refl
   length-log t (a ∷ l) = ap suc (length-log (tableAfter rule boards cells t a) l)
 

@@ -10,9 +10,9 @@ use lib.ListN.{getD}
 use borrow.Author.Tests.{eq-eqb, ne-eqb, eqb-true}
 use Rattle.protocol.specs.declared.Action.{Action}
 use Rattle.protocol.specs.Slices.{Table}
-use Rattle.protocol.specs.Step.{seen, answer, tableAfter}
+use Rattle.protocol.specs.Step.{seen, answerBy, answer, tableAfter}
 use Rattle.protocol.specs.Fresh.{freshTable}
-use Rattle.protocol.specs.Runs.{Line, log, tableAfterAll, followed, written, writtenAfter, latestWrite, naming}
+use Rattle.protocol.specs.Runs.{Line, logBy, log, tableAfterAll, followed, written, writtenAfter, latestWrite, naming}
 use Rattle.protocol.proofs.StepLaws.{accepted}
 use Rattle.protocol.proofs.Demand3Order.{same-answers, same-end}
 use Rattle.sessions.specs.File.{ruleIn, boardsIn, cellsIn, startingIn}
@@ -89,7 +89,7 @@ accepted-of-cells n (l ∷ ls) h =
         nought false = refl
 
 log-inside : (rule boards cells : ℕ) (t : Table) (l : List Action) → Inside cells (log rule boards cells t l)
-unfolding log answer
+unfolding logBy answerBy
 log-inside rule boards cells t [] = tt
 log-inside rule boards cells t (a ∷ l) = ((λ e. accepted rule boards cells (seen boards cells t (a .cell)) a e .inside), log-inside rule boards cells (tableAfter rule boards cells t a) l)
 

@@ -14,7 +14,7 @@ use Rattle.protocol.specs.Slices.{Table}
 use Rattle.protocol.specs.Cell.{Cell, copyAt, liveMask, cellOf}
 use Rattle.protocol.specs.Step.{answer, tableAfter}
 use Rattle.protocol.specs.Fresh.{freshTable}
-use Rattle.protocol.specs.Runs.{CoherentRule, Line, log, tableAfterAll, isRead, acceptedRead, latestWrite}
+use Rattle.protocol.specs.Runs.{CoherentRule, Line, logBy, log, tableAfterAllBy, tableAfterAll, isRead, acceptedRead, latestWrite}
 use Rattle.protocol.proofs.Demand3Reads.{reads-latest}
 use Rattle.protocol.proofs.FreshStaysSound.{never-7, live-is-latest}
 use Rattle.sessions.specs.File.{ruleIn, boardsIn, cellsIn, startingIn}
@@ -43,7 +43,7 @@ none-summed (suc n) count h = rw (h n, none-summed n count h)
 -- no line tells 7 where no earlier table does
 none-told-7 : (rule boards cells : ℕ) (t : Table) (l : List Action) → ((earlier : List Action) (a : Action) → answer rule boards cells (tableAfterAll rule boards cells t earlier) a .number ≢ 7) →
     (i : ℕ) → getD (log rule boards cells t l) i noLine .told .number ≢ 7
-unfolding log tableAfterAll
+unfolding logBy tableAfterAllBy
 none-told-7 rule boards cells t [] h i = λ e. omega arith
 none-told-7 rule boards cells t (a ∷ l) h zero = h [] a
 none-told-7 rule boards cells t (a ∷ l) h (suc i) = none-told-7 rule boards cells (tableAfter rule boards cells t a) l (λ earlier. h (a ∷ earlier)) i

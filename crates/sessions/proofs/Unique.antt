@@ -4,16 +4,22 @@ use mathlib.Core.List.{List}
 use Prim.Native.Nat.{ℕ}
 use Rattle.protocol.specs.declared.Answer.{Answer}
 use Rattle.protocol.specs.Slices.{Table}
+use Rattle.sessions.specs.declared.Head.{Head}
 use Rattle.sessions.specs.declared.Report.{Report}
-use Rattle.sessions.specs.declared.Sizes.{Sizes}
-use Rattle.sessions.specs.Statements.{accepting, SizesIn, Reads, Writes, Runs, SameSizes, SameRead, SameWrite, SameRun}
+use Rattle.sessions.specs.Statements.{accepting, HeadOf, Reads, Writes, Runs, SameHead, SameRead, SameWrite, SameRun}
 
 -- what follows from the number is the same where the number is
 pub by-number : {A : Type 0} (n n′ : ℕ) (a b x y : A) → n ≡ n′ → x ≡ accepting n a b → y ≡ accepting n′ a b → x ≡ y
 by-number {A = A} n n′ a b x y e p q = p ∙ ap (λ (k : ℕ). accepting {A = A} k a b) e ∙ sym q
 
-pub one-sizes : (file : List ℕ) (r r′ : Sizes) → SizesIn file r → SizesIn file r′ → SameSizes r r′
-one-sizes file r r′ f g = record { same-boards = f .boards-is ∙ sym (g .boards-is); same-cells = f .cells-is ∙ sym (g .cells-is) }
+pub one-head : (file : List ℕ) (r r′ : Head) → HeadOf file r → HeadOf file r′ → SameHead r r′
+one-head file r r′ f g = record {
+  same-rule = f .rule-is ∙ sym (g .rule-is);
+  same-boards = f .boards-is ∙ sym (g .boards-is);
+  same-cells = f .cells-is ∙ sym (g .cells-is);
+  same-from = f .from-is ∙ sym (g .from-is);
+  same-count = f .count-is ∙ sym (g .count-is);
+}
 
 pub one-read : (file old records records′ : List ℕ) (number number′ rule rule′ boards boards′ cells cells′ : ℕ) (starting starting′ : List ℕ) →
     Reads file old records number rule boards cells starting → Reads file old records′ number′ rule′ boards′ cells′ starting′ →

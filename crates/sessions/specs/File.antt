@@ -40,9 +40,12 @@ values s at (suc n) = le32 s at ∷ values s (at + 4) n
 abbrev pub startingIn : List ℕ → List ℕ
 startingIn file = values file 9 (cellsIn file)
 
--- "Then records of nine bytes": the bytes behind the starting values
+-- "Then records of nine bytes": they begin behind the nine bytes and the N starting values
+abbrev pub recordsAt : (cells : ℕ) → ℕ
+recordsAt cells = 9 + 4 * cells
+
 abbrev pub recordsIn : List ℕ → List ℕ
-recordsIn file = drop (9 + 4 * cellsIn file) file
+recordsIn file = drop (recordsAt (cellsIn file)) file
 
 -- "code, p, q (8 bits each), cell (16 bits), value (32 bits)"
 unfoldable pub actionAt : List ℕ → (at : ℕ) → Action

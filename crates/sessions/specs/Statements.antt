@@ -7,11 +7,11 @@ use lib.Dec.{eqb, ltb}
 use lib.ListN.{length, drop}
 use Rattle.protocol.specs.declared.Answer.{Answer}
 use Rattle.protocol.specs.First.{firstNumber}
-use Rattle.sessions.specs.File.{ruleIn, boardsIn, cellsIn, startingIn, recordsIn, fileOf}
+use Rattle.sessions.specs.File.{ruleIn, boardsIn, cellsIn, startingIn, recordsAt, recordsIn, fileOf}
 use Rattle.sessions.specs.FileRefusals.{readRefusals, writeRefusals, countIn, runRefusals}
 use Rattle.sessions.specs.Run.{endOf, logOf, acceptedIn, staleOf}
+use Rattle.sessions.specs.declared.Head.{Head}
 use Rattle.sessions.specs.declared.Report.{Report}
-use Rattle.sessions.specs.declared.Sizes.{Sizes}
 use Rattle.table.specs.Statements.{Holds}
 use Rattle.protocol.specs.Slices.{Table}
 
@@ -19,10 +19,13 @@ use Rattle.protocol.specs.Slices.{Table}
 abbrev pub accepting {ℓ} : {A : Type ℓ} → (number : ℕ) → A → A → A
 accepting number a b = cond (eqb number 0) a b
 
--- `sizes_in`: P and N where the file has its first nine bytes, else 0; N is a 16-bit number
-pub record SizesIn (file : List ℕ) (r : Sizes) : Type 0 where
+-- `head_of`: rule, P and N, where the records begin and how many there are; all 0 where the file has fewer than nine bytes. N is a 16-bit number.
+pub record HeadOf (file : List ℕ) (r : Head) : Type 0 where
+  pub rule-is : r .rule ≡ cond (ltb (length file) 9) 0 (ruleIn file)
   pub boards-is : r .boards ≡ cond (ltb (length file) 9) 0 (boardsIn file)
   pub cells-is : r .cells ≡ cond (ltb (length file) 9) 0 (cellsIn file)
+  pub from-is : r .from ≡ cond (ltb (length file) 9) 0 (recordsAt (cellsIn file))
+  pub count-is : r .count ≡ cond (ltb (length file) 9) 0 (countIn file)
   pub few-cells : r .cells < 65536
 
 -- `read`: "answers rule, P and N, fills a lent slice .. and hands back the record bytes as a part of the caller's file; for a refused file the
@@ -62,9 +65,12 @@ pub record ReadAs (file : List ℕ) (rule boards cells : ℕ) (starting records 
 
 -- ---- two outcomes of a call are the same: the answer, and what each lent slice holds
 
-pub record SameSizes (r r′ : Sizes) : Type 0 where
+pub record SameHead (r r′ : Head) : Type 0 where
+  pub same-rule : r .rule ≡ r′ .rule
   pub same-boards : r .boards ≡ r′ .boards
   pub same-cells : r .cells ≡ r′ .cells
+  pub same-from : r .from ≡ r′ .from
+  pub same-count : r .count ≡ r′ .count
 
 pub record SameRead (records records′ : List ℕ) (number number′ rule rule′ boards boards′ cells cells′ : ℕ) (starting starting′ : List ℕ) : Type 0 where
   pub same-records : records ≡ records′

@@ -1,8 +1,8 @@
-// The mark, numbers in a slice of bytes, little-endian, and the part of a slice behind a place.
+// The mark, numbers in a slice of bytes, little-endian, where the records begin, and the part of a slice from a place on.
 ghost use mathlib.Core.Path.{_≡_};
 ghost use Prim.Native.Nat.{_+_, _*_, _<_, _≤_};
 ghost use lib.ListN.{length, getD, drop};
-ghost use Rattle.sessions.specs.File.{le16, le32, values};
+ghost use Rattle.sessions.specs.File.{le16, le32, values, recordsAt};
 
 // The mark of a session file: its first three bytes.
 pub const MARK: [u8; 3] = *b"CCS";
@@ -43,8 +43,16 @@ pub fn read_values(s: &[u8], at: usize, out: &mut [u32])
     }
 }
 
-// The part from a place on; empty where the place is past the end.
-pub fn tail<'a>(s: &'a [u8], from: usize) -> &'a [u8]
+// Where the records begin: behind the nine bytes and the starting values.
+pub fn records_at(cells: usize) -> usize
+    requires { ⌜ cells < 65536 ⌝ }
+    ensures { λ r. ⌜ r ≡ recordsAt cells ⌝ }
+{
+    9 + 4 * cells
+}
+
+// The part of a slice from a place to its end; empty where the place is past the end.
+pub fn part_from<'a>(s: &'a [u8], from: usize) -> &'a [u8]
     ensures { λ r. ⌜ now r ≡ drop from (now (s .entry)) ⌝ }
 {
     if from <= s.len() { &s[from..] } else { &s[..0] }

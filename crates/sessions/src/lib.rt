@@ -1,6 +1,6 @@
 // The session file and its run: a reader, a writer, and a run of the file's records over a table in lent memory.
 ghost use Rattle.protocol.specs.Slices.{tableOf};
-ghost use Rattle.sessions.specs.Statements.{SizesIn, Reads, Writes, Runs};
+ghost use Rattle.sessions.specs.Statements.{HeadOf, Reads, Writes, Runs};
 
 mod bytes;
 mod reader;
@@ -12,10 +12,13 @@ mod writer;
 
 use protocol::Answer;
 
-// How many boards and cells a session file has.
-pub struct Sizes {
+// What a session file says before its records: its rule, P and N, where the records begin, and how many there are.
+pub struct Head {
+    pub rule: u8,
     pub boards: usize,
     pub cells: usize,
+    pub from: usize,
+    pub count: usize,
 }
 
 // What a run reports: the number of its answer, how many records were accepted, and how many copies are stale at its end.
@@ -34,19 +37,27 @@ pub struct Session<'a> {
     pub cells: usize,
 }
 
-// P and N as a file's first nine bytes say them; both 0 where it has fewer. What to lend to `read` and `run` follows from them.
-pub fn sizes_in(file: &[u8]) -> Sizes
-    ensures { λ r. ⌜ SizesIn (now (file .entry)) r ⌝ }
+// The head of a file, without any judgement; all 0 where it has fewer than nine bytes. What to lend to `read` and `run` follows from it.
+pub fn head_of(file: &[u8]) -> Head
+    ensures { λ r. ⌜ HeadOf (now (file .entry)) r ⌝ }
 {
     if file.len() < 9 {
-        return Sizes {
+        return Head {
+            rule: 0,
             boards: 0,
             cells: 0,
+            from: 0,
+            count: 0,
         };
     }
-    Sizes {
+    let cells = bytes::read16(file, 7) as usize;
+    let from = bytes::records_at(cells);
+    Head {
+        rule: file[5],
         boards: file[6] as usize,
-        cells: bytes::read16(file, 7) as usize,
+        cells,
+        from,
+        count: bytes::part_from(file, from).len() / 9,
     }
 }
 
@@ -57,7 +68,7 @@ pub fn read<'a>(file: &'a [u8], starting: &mut [u32]) -> Session<'a>
 {
     let header = reader::read_header(file, starting);
     Session {
-        records: bytes::tail(file, header.from),
+        records: bytes::part_from(file, header.from),
         number: header.number,
         rule: header.rule,
         boards: header.boards,
@@ -89,7 +100,7 @@ pub fn write(
     }
     writer::put_header(out, rule, boards, cells);
     writer::put_values(out, 9, starting);
-    writer::put_bytes(out, 9 + 4 * cells, records);
+    writer::put_bytes(out, bytes::records_at(cells), records);
     Answer { number, value: 0 }
 }
 
@@ -113,5 +124,5 @@ pub fn run(
             stale: 0,
         };
     }
-    runner::perform(file, main, copies, masks, numbers, values)
+    runner::run_accepted(file, main, copies, masks, numbers, values)
 }

@@ -20,13 +20,13 @@ pub struct Header {
 fn refusal(file: &[u8], lent: usize) -> u8
     ensures { λ r. ⌜ r ≡ firstNumber (readRefusals (now (file .entry)) lent) ⌝ }
 {
-    let head = refusals::head_refusal(file);
-    if head != protocol::ACCEPTED {
-        return head;
+    let number = refusals::head_refusal(file);
+    if number != protocol::ACCEPTED {
+        return number;
     }
-    let sizes = crate::sizes_in(file);
-    let sizes_bad = !table::in_range(sizes.boards, sizes.cells) | (lent != sizes.cells);
-    refusals::body_refusal(sizes_bad, file[5], refusals::body_bad(file, sizes.cells))
+    let head = crate::head_of(file);
+    let sizes_bad = !table::in_range(head.boards, head.cells) | (lent != head.cells);
+    refusals::body_refusal(sizes_bad, head.rule, refusals::body_bad(file, head.from))
 }
 
 // Everything that reading does, but for the part of the records itself.
@@ -44,12 +44,12 @@ pub fn read_header(file: &[u8], starting: &mut [u32]) -> Header
         };
     }
     bytes::read_values(file, 9, starting);
-    let sizes = crate::sizes_in(file);
+    let head = crate::head_of(file);
     Header {
         number,
-        rule: file[5],
-        boards: sizes.boards,
-        cells: sizes.cells,
-        from: 9 + 4 * sizes.cells,
+        rule: head.rule,
+        boards: head.boards,
+        cells: head.cells,
+        from: head.from,
     }
 }

@@ -37,7 +37,7 @@ fn note(action: Action, number: u8, latest: &mut [u32]) -> usize
 }
 
 // Performs the records in order: their answers, the table after the last, the latest accepted writes, and how many were accepted.
-pub fn perform_all(
+pub fn step_all(
     rule: u8,
     boards: usize,
     cells: usize,

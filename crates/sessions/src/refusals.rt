@@ -3,7 +3,7 @@ ghost use mathlib.Core.Path.{_≡_};
 ghost use Prim.Native.Nat.{_<_, _≤_};
 ghost use lib.ListN.{length};
 ghost use Rattle.protocol.specs.First.{firstNumber};
-ghost use Rattle.sessions.specs.File.{marked, cellsIn};
+ghost use Rattle.sessions.specs.File.{marked, cellsIn, recordsAt};
 ghost use Rattle.sessions.specs.FileRefusals.{headRefusals, bodyRefusals, recordsBad, bodyBad};
 use crate::bytes;
 
@@ -38,12 +38,11 @@ pub fn records_bad(n: usize) -> bool
     (n % 9 != 0) | (4096 < n / 9)
 }
 
-// The starting values are cut off, or the records behind them are bad.
-pub fn body_bad(file: &[u8], cells: usize) -> bool
-    requires { ⌜ (cells ≡ cellsIn (now file)) × (cells < 65536) ⌝ }
+// The starting values are cut off, or the records behind them, which begin at `from`, are bad.
+pub fn body_bad(file: &[u8], from: usize) -> bool
+    requires { ⌜ from ≡ recordsAt (cellsIn (now file)) ⌝ }
     ensures { λ r. ⌜ r ≡ bodyBad (now (file .entry)) ⌝ }
 {
-    let from = 9 + 4 * cells;
     if file.len() < from {
         return true;
     }

@@ -23,25 +23,24 @@ pub fn refusal(
 ) -> u8
     ensures { λ r. ⌜ r ≡ firstNumber (runRefusals (now (file .entry)) (tableOf (now (main .entry)) (now (copies .entry)) (now (masks .entry))) numbers values) ⌝ }
 {
-    let head = refusals::head_refusal(file);
-    if head != protocol::ACCEPTED {
-        return head;
+    let first = refusals::head_refusal(file);
+    if first != protocol::ACCEPTED {
+        return first;
     }
-    let sizes = crate::sizes_in(file);
-    let fits = table::sizes_good(sizes.boards, sizes.cells, main, copies, masks);
-    let body = refusals::body_refusal(!fits, file[5], refusals::body_bad(file, sizes.cells));
+    let head = crate::head_of(file);
+    let fits = table::sizes_good(head.boards, head.cells, main, copies, masks);
+    let body = refusals::body_refusal(!fits, head.rule, refusals::body_bad(file, head.from));
     if body != protocol::ACCEPTED {
         return body;
     }
-    let count = (file.len() - (9 + 4 * sizes.cells)) / 9;
-    if (numbers < count) | (values < count) {
+    if (numbers < head.count) | (values < head.count) {
         return protocol::NO_ROOM;
     }
     protocol::ACCEPTED
 }
 
 // The run of a file that is not refused; `latest` has a place for each cell.
-fn perform_with(
+fn run_with_latest(
     file: &[u8],
     main: &mut [u32],
     copies: &mut [u32],
@@ -53,14 +52,15 @@ fn perform_with(
     requires { ⌜ (firstNumber (runRefusals (now file) (tableOf (now main) (now copies) (now masks)) (length (now numbers)) (length (now values))) ≡ 0) × (length (now latest) ≡ cellsIn (now file)) ⌝ }
     ensures { λ r. ⌜ Finished (now (file .entry)) (now (numbers .entry)) (now (values .entry)) r (tableOf (now (main .exit)) (now (copies .exit)) (now (masks .exit))) (now (numbers .exit)) (now (values .exit)) ⌝ }
 {
-    let sizes = crate::sizes_in(file);
+    let head = crate::head_of(file);
     bytes::read_values(file, 9, latest);
-    let fresh = table::fresh(sizes.boards, sizes.cells, latest, main, copies, masks);
-    let accepted = records::perform_all(
-        file[5],
-        sizes.boards,
-        sizes.cells,
-        bytes::tail(file, 9 + 4 * sizes.cells),
+    // `fresh` cannot refuse: the sizes were judged.
+    table::fresh(head.boards, head.cells, latest, main, copies, masks);
+    let accepted = records::step_all(
+        head.rule,
+        head.boards,
+        head.cells,
+        bytes::part_from(file, head.from),
         main,
         copies,
         masks,
@@ -68,16 +68,15 @@ fn perform_with(
         values,
         latest,
     );
-    // `fresh` cannot refuse: the sizes were judged.
     Report {
-        number: fresh.number,
+        number: protocol::ACCEPTED,
         accepted,
-        stale: stale::count(sizes.boards, sizes.cells, copies, masks, latest),
+        stale: stale::count(head.boards, head.cells, copies, masks, latest),
     }
 }
 
 // The same, with the one local buffer: the latest accepted write to each cell.
-pub fn perform(
+pub fn run_accepted(
     file: &[u8],
     main: &mut [u32],
     copies: &mut [u32],
@@ -88,15 +87,15 @@ pub fn perform(
     requires { ⌜ firstNumber (runRefusals (now file) (tableOf (now main) (now copies) (now masks)) (length (now numbers)) (length (now values))) ≡ 0 ⌝ }
     ensures { λ r. ⌜ Finished (now (file .entry)) (now (numbers .entry)) (now (values .entry)) r (tableOf (now (main .exit)) (now (copies .exit)) (now (masks .exit))) (now (numbers .exit)) (now (values .exit)) ⌝ }
 {
-    let sizes = crate::sizes_in(file);
+    let head = crate::head_of(file);
     let mut latest = [0u32; 512];
-    perform_with(
+    run_with_latest(
         file,
         main,
         copies,
         masks,
         numbers,
         values,
-        &mut latest[..sizes.cells],
+        &mut latest[..head.cells],
     )
 }

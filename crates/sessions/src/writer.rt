@@ -25,7 +25,7 @@ pub fn refusal(
     if body != protocol::ACCEPTED {
         return body;
     }
-    if room < 9 + 4 * cells + records {
+    if room < bytes::records_at(cells) + records {
         return protocol::NO_ROOM;
     }
     protocol::ACCEPTED

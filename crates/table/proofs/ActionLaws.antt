@@ -14,7 +14,7 @@ use Rattle.protocol.specs.Slices.{Table, main, copies, masks, sizesGood}
 use Rattle.protocol.specs.Cell.{Cell, cellOf}
 use Rattle.protocol.specs.Soundness.{sound}
 use Rattle.protocol.specs.First.{when, firstNumber}
-use Rattle.protocol.specs.Step.{malformed, missing, offBoard, seen, refusals, answer, tableAfter}
+use Rattle.protocol.specs.Step.{malformed, missing, offBoard, seenBy, seen, refusals, answerBy, answer, tableAfterBy}
 use Rattle.protocol.proofs.Booleans.{clash}
 use Rattle.protocol.proofs.InWords.{malformed-exactly, offBoard-exactly}
 use Rattle.protocol.proofs.NumberLaws.{code-fits}
@@ -55,7 +55,7 @@ formed rule a e = go (malformed a) refl (missing rule (a .code)) refl
 module _ (rule boards cells : ℕ) (t : Table) (a : Action) where
   -- accepted: the places that the action uses
   pub accepted-room : answer rule boards cells t a .number ≡ 0 → Room boards cells (a .cell) (a .board) (a .to) t × (a .code ≤ 8)
-  unfolding refusals seen
+  unfolding refusals seenBy
   accepted-room e =
       let n = accepted-exactly rule boards cells t a .0 e in
       let y = ready boards cells t (not-false _ (n .0)) (a .cell) (leb-false cells (a .cell) (n .1 .1 .1 .1 .1 .0)) in
@@ -71,7 +71,7 @@ module _ (rule boards cells : ℕ) (t : Table) (a : Action) where
   -- accepted: the action's value, and its effect stored
   pub went : (n r : ℕ) (t′ : Table) → n ≡ answer rule boards cells t a .number → n ≡ 0 → Performs boards cells t a r t′ →
       Steps boards cells t rule a (record { number = n; value = r }) t′
-  unfolding tableAfter answer seen
+  unfolding tableAfterBy answerBy seenBy
   went n r t′ e z p =
       let ok : answer rule boards cells t a .number ≡ 0 = sym e ∙ z in
       record {

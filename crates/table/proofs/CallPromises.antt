@@ -9,7 +9,7 @@ use Rattle.protocol.specs.declared.Answer.{Answer}
 use Rattle.protocol.specs.Slices.{Table}
 use Rattle.protocol.specs.Step.{answer, tableAfter}
 use Rattle.protocol.specs.Fresh.{freshTable}
-use Rattle.protocol.specs.Runs.{CoherentRule, Line, log, tableAfterAll, acceptedRead, latestWrite, naming}
+use Rattle.protocol.specs.Runs.{CoherentRule, Line, logBy, log, tableAfterAllBy, tableAfterAll, acceptedRead, latestWrite, naming}
 use Rattle.protocol.proofs.Demand3Reads.{reads-latest}
 use Rattle.protocol.proofs.Demand3Order.{same-answers, same-end}
 use Rattle.table.specs.Statements.{Holds, Freshens}
@@ -26,13 +26,13 @@ same-answer r r′ e d = ap (λ (n : ℕ). answered n (r .value)) e ∙ ap (λ (
 
 module _ (rule boards cells : ℕ) where
   lines-are : (t : Table) (calls : List Call) → Calls rule boards cells t calls → linesOf calls ≡ log rule boards cells t (actionsOf calls)
-  unfolding log
+  unfolding logBy
   lines-are t [] chain = refl
   lines-are t (c ∷ rest) (s, chain) =
       rw (same-answer (c .line .told) (answer rule boards cells t (c .line .action)) (s .number) (s .value), lines-are (c .left) rest chain, held (c .left) (tableAfter rule boards cells t (c .line .action)) (s .slices))
 
   left-is : (t : Table) (calls : List Call) → Calls rule boards cells t calls → leftBy t calls ≡ tableAfterAll rule boards cells t (actionsOf calls)
-  unfolding leftBy tableAfterAll
+  unfolding leftBy tableAfterAllBy
   left-is t [] chain = refl
   left-is t (c ∷ rest) (s, chain) = left-is (c .left) rest chain ∙ ap (λ (u : Table). tableAfterAll rule boards cells u (actionsOf rest)) (held (c .left) (tableAfter rule boards cells t (c .line .action)) (s .slices))
 
@@ -61,5 +61,5 @@ module _ (rule boards cells : ℕ) (t t′ : Table) (same : Holds t t′) (calls
   pub calls-end-alike : Holds (leftBy t calls) (leftBy t′ calls′)
   calls-end-alike s =
       let e : leftBy t calls ≡ leftBy t′ calls′ =
-          rw (left-is rule boards cells t calls chain, left-is rule boards cells t′ calls′ chain′, held t t′ same) (same-end rule boards cells t′ (actionsOf calls) (actionsOf calls′) alike) in
+      rw (left-is rule boards cells t calls chain, left-is rule boards cells t′ calls′ chain′, held t t′ same) (same-end rule boards cells t′ (actionsOf calls) (actionsOf calls′) alike) in
       ap (λ (u : Table). u s) e

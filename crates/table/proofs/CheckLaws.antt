@@ -8,7 +8,7 @@ use Rattle.protocol.specs.Names.{ruleOf}
 use Rattle.protocol.specs.Slices.{Table, sizesGood}
 use Rattle.protocol.specs.Cell.{cellOf}
 use Rattle.protocol.specs.Soundness.{sound}
-use Rattle.protocol.specs.Check.{checkAnswer, lowestFrom, lowestUnsound}
+use Rattle.protocol.specs.Check.{checkAnswer, lowestFrom, lowestUnsoundBy, lowestUnsound}
 use Rattle.protocol.proofs.CheckExactly.{check-1, check-2, check-accepted, check-value}
 use Rattle.table.specs.declared.Checked.{Checked}
 use Rattle.table.specs.declared.Checked.the-variants.{Sound, Unsound, Refused}
@@ -38,7 +38,7 @@ module _ (rule boards cells : ℕ) (t : Table) where
   left-end cell l = let z : cells - cell ≡ 0 = omega arith in rw z
 
   left-start : lowestUnsound rule boards cells t ≡ leftFrom 0
-  unfolding lowestUnsound
+  unfolding lowestUnsoundBy
   left-start = let z : cells - 0 ≡ cells = omega arith in rw z
 
   -- ---- the ways out

@@ -1,6 +1,7 @@
 -- The effects of the nine codes, as the code stores them. Assumes nothing.
 use mathlib.Core.Path.{_≡_, refl, sym}
 use mathlib.Core.Logic.{_≢_}
+use mathlib.Core.Bool.{true, false}
 use mathlib.Core.List.{List}
 use Prim.Native.Nat.{ℕ, _+_, _*_}
 use native.Mathlib.Omega.{arith}
@@ -12,7 +13,7 @@ use Rattle.protocol.specs.Slices.{main, copies, masks, sliceNumber, Table, tabl
 use Rattle.protocol.specs.Cell.{Cell, mainValue, copyAt, liveMask, dirtyMask, lockMask, cellOf}
 use Rattle.protocol.specs.Effects.{effect, valueOf, storeBy, storesBy}
 use Rattle.table.specs.Statements.{Holds}
-use Rattle.table.specs.Code.{Room, Performs, actionOf}
+use Rattle.table.specs.Code.{Room, Performs, actionOf, marked, received}
 use Rattle.table.proofs.ReadyLaws.{main-is, copy-is, live-is, dirty-is, lock-is}
 
 by-slice : (u : Table) (m k w : List ℕ) → m ≡ u main → k ≡ u copies → w ≡ u masks → Holds (tableOf m k w) u
@@ -53,19 +54,18 @@ module _ (boards cells cell board to value : ℕ) (t : Table) (y : Room boards c
   unfolding procOf valueOf effect storesBy
   does-read = record { value = sym a-copy; stored = λ r. by-slice _ _ _ _ refl refl refl }
 
-  pub does-write : (w₁ w₂ : List ℕ) → w₁ ≡ set (t masks) (cell * 3) (withBoard (getD (t masks) (cell * 3) 0) board) →
-      w₂ ≡ set w₁ (cell * 3 + 1) (withBoard (getD w₁ (cell * 3 + 1) 0) board) → Does 1 0 (t main) (set (t copies) (cell * boards + board) value) w₂
+  pub does-write : (w₁ : List ℕ) → w₁ ≡ received (t masks) (cell * 3) board true → Does 1 0 (t main) (set (t copies) (cell * boards + board) value) w₁
   unfolding procOf valueOf effect storesBy storeBy sliceNumber cellByCell width
-  does-write w₁ w₂ e₁ e₂ =
+  does-write w₁ e =
       let n : cell * 3 + 1 ≢ cell * 3 = omega arith in
-      let b : getD w₁ (cell * 3 + 1) 0 ≡ getD (t masks) (cell * 3 + 1) 0 = rw e₁ (getD-set-other (t masks) (cell * 3) (cell * 3 + 1) _ 0 n) in
-      record { value = refl; stored = λ r. by-slice _ _ _ _ refl refl (rw (e₂, b, e₁, a-live, a-dirty, at-0)) }
+      let b = getD-set-other (t masks) (cell * 3) (cell * 3 + 1) (withBoard (getD (t masks) (cell * 3) 0) board) 0 n in
+      record { value = refl; stored = λ r. by-slice _ _ _ _ refl refl (rw (e, b, a-live, a-dirty, at-0)) }
 
   pub does-barrier : Does 2 0 (t main) (t copies) (t masks)
   unfolding procOf valueOf effect storesBy
   does-barrier = record { value = refl; stored = λ r. by-slice _ _ _ _ refl refl refl }
 
-  pub does-mtoc : (w₁ : List ℕ) → w₁ ≡ set (t masks) (cell * 3) (withBoard (getD (t masks) (cell * 3) 0) board) →
+  pub does-mtoc : (w₁ : List ℕ) → w₁ ≡ received (t masks) (cell * 3) board false →
       Does 3 0 (t main) (set (t copies) (cell * boards + board) (getD (t main) cell 0)) w₁
   unfolding procOf valueOf effect storesBy storeBy sliceNumber cellByCell width
   does-mtoc w₁ e = record { value = refl; stored = λ r. by-slice _ _ _ _ refl (rw a-main) (rw (e, a-live, at-0)) }
@@ -75,7 +75,7 @@ module _ (boards cells cell board to value : ℕ) (t : Table) (y : Room boards c
   unfolding procOf valueOf effect storesBy storeBy sliceNumber cellByCell width
   does-ctom w₁ e = record { value = refl; stored = λ r. by-slice _ _ _ _ (rw (a-copy, at-main)) refl (rw (e, a-dirty)) }
 
-  pub does-ctoc : (w₁ : List ℕ) → w₁ ≡ set (t masks) (cell * 3) (withBoard (getD (t masks) (cell * 3) 0) to) →
+  pub does-ctoc : (w₁ : List ℕ) → w₁ ≡ received (t masks) (cell * 3) to false →
       Does 5 0 (t main) (set (t copies) (cell * boards + to) (getD (t copies) (cell * boards + board) 0)) w₁
   unfolding procOf valueOf effect storesBy storeBy sliceNumber cellByCell width
   does-ctoc w₁ e = record { value = refl; stored = λ r. by-slice _ _ _ _ refl (rw a-copy) (rw (e, a-live, at-0)) }
@@ -85,7 +85,7 @@ module _ (boards cells cell board to value : ℕ) (t : Table) (y : Room boards c
   unfolding procOf valueOf effect storesBy storeBy sliceNumber cellByCell width
   does-drop w₁ e = record { value = refl; stored = λ r. by-slice _ _ _ _ refl refl (rw (e, a-live, at-0)) }
 
-  pub does-acquire : (w₁ : List ℕ) → w₁ ≡ set (t masks) (cell * 3 + 2) (withBoard (getD (t masks) (cell * 3 + 2) 0) board) → Does 7 0 (t main) (t copies) w₁
+  pub does-acquire : (w₁ : List ℕ) → w₁ ≡ marked (t masks) (cell * 3 + 2) board → Does 7 0 (t main) (t copies) w₁
   unfolding procOf valueOf effect storesBy storeBy sliceNumber cellByCell width
   does-acquire w₁ e = record { value = refl; stored = λ r. by-slice _ _ _ _ refl refl (rw (e, a-lock)) }
 

@@ -6,9 +6,9 @@ use Prim.Native.Nat.{ℕ, _+_, _*_, _^_, _<_, _≤_}
 use lib.Dec.{eqb, ltb, leb}
 use lib.Bits.{bitAnd}
 use lib.Count.{ones}
-use lib.ListN.{length, getD}
+use lib.ListN.{length, getD, set}
 use Rattle.protocol.specs.Names.{Rule, ruleOf, procOf}
-use Rattle.protocol.specs.Masks.{hasBoard, hasAnother, lowestBoard}
+use Rattle.protocol.specs.Masks.{hasBoard, withBoard, lowestBoard}
 use Rattle.protocol.specs.Slices.{Slice, main, copies, masks, Table, width}
 use Rattle.protocol.specs.Effects.{effect, valueOf, storesIn}
 use Rattle.table.specs.Statements.{Holds}
@@ -64,6 +64,14 @@ masksSound rule boards live dirty lock =
 -- soundness of one board's copy: 0 where it is not live, the current value where it is (Inv4)
 unfoldable pub copySound : (rule live copy current board : ℕ) → Bool
 copySound rule live copy current board = (hasBoard live board || eqb copy 0) && (ltb rule 2 || (not (hasBoard live board) || eqb copy current))
+
+-- the masks with a board put into the one at a place
+abbrev pub marked : (w : List ℕ) → (at board : ℕ) → List ℕ
+marked w at board = set w at (withBoard (getD w at 0) board)
+
+-- and with a board that has got a copy: it is live and, where the copy was written there, dirty
+abbrev pub received : (w : List ℕ) → (live board : ℕ) → (written : Bool) → List ℕ
+received w live board written = cond written (marked (marked w live board) (live + 1) board) (marked w live board)
 
 -- n is what the guard of an action answers on every cell with these masks, this copy at its board, and this current value
 abbrev pub GuardGives : (rule live dirty lock copy current : ℕ) → Action → (n : ℕ) → Type 0

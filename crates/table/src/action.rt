@@ -24,7 +24,7 @@ pub fn refusal(
     if !crate::sizes_good(boards, cells, main, copies, masks) {
         return protocol::BAD_SIZES;
     }
-    if rule > 4 {
+    if rule > protocol::LAST_RULE {
         return protocol::BAD_RULE;
     }
     let form = rules::form(rule, a);
@@ -66,17 +66,16 @@ pub fn perform(
 {
     let home = cell * boards + board;
     let there = cell * boards + to;
-    let live = cell * 3;
-    let dirty = cell * 3 + 1;
-    let lock = cell * 3 + 2;
+    let live = cell * protocol::MASKS_PER_CELL;
+    let dirty = cell * protocol::MASKS_PER_CELL + 1;
+    let lock = cell * protocol::MASKS_PER_CELL + 2;
     match code {
         // Read
         0 => copies[home],
         // Write
         1 => {
             copies[home] = value;
-            mask::mark(masks, live, board);
-            mask::mark(masks, dirty, board);
+            mask::receive(masks, live, board, true);
             0
         }
         // Barrier
@@ -84,7 +83,7 @@ pub fn perform(
         // MtoC
         3 => {
             copies[home] = main[cell];
-            mask::mark(masks, live, board);
+            mask::receive(masks, live, board, false);
             0
         }
         // CtoM
@@ -96,7 +95,7 @@ pub fn perform(
         // CtoC
         5 => {
             copies[there] = copies[home];
-            mask::mark(masks, live, to);
+            mask::receive(masks, live, to, false);
             0
         }
         // Drop

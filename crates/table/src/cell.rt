@@ -19,7 +19,7 @@ pub fn masks_at(masks: &[u16], cell: usize) -> Masks
     requires { ⌜ (cell < 512) × (cell * 3 + 2 < length (now masks)) ⌝ }
     ensures { λ r. ⌜ MasksAt (now (masks .entry)) cell (r .live) (r .dirty) (r .lock) ⌝ }
 {
-    let at = cell * 3;
+    let at = cell * protocol::MASKS_PER_CELL;
     Masks {
         live: masks[at],
         dirty: masks[at + 1],

@@ -34,7 +34,8 @@ pub fn sizes_good(boards: usize, cells: usize, main: &[u32], copies: &[u32], mas
     if !in_range(boards, cells) {
         return false;
     }
-    (main.len() == cells) & ((copies.len() == cells * boards) & (masks.len() == cells * 3))
+    (main.len() == cells)
+        & ((copies.len() == cells * boards) & (masks.len() == cells * protocol::MASKS_PER_CELL))
 }
 
 // A fresh table: main is `starting`, every copy and mask is 0.
@@ -83,7 +84,7 @@ pub fn check(
     if !sizes_good(boards, cells, main, copies, masks) {
         return Checked::Refused(protocol::BAD_SIZES);
     }
-    if rule > 4 {
+    if rule > protocol::LAST_RULE {
         return Checked::Refused(protocol::BAD_RULE);
     }
     let mut answer = Checked::Sound;

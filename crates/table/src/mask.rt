@@ -1,10 +1,10 @@
 // A mask's boards: board p is the bit worth 2^p.
 ghost use mathlib.Core.Path.{_≡_};
-ghost use Prim.Native.Nat.{_<_, _≤_, _^_};
+ghost use Prim.Native.Nat.{_+_, _<_, _≤_, _^_};
 ghost use lib.Dec.{ltb};
 ghost use lib.ListN.{length, getD, set};
 ghost use Rattle.protocol.specs.Masks.{hasBoard, withBoard, withoutBoard, hasAnother};
-ghost use Rattle.table.specs.Code.{within};
+ghost use Rattle.table.specs.Code.{within, marked, received};
 
 pub fn has_board(mask: u16, board: usize) -> bool
     requires { ⌜ board < 16 ⌝ }
@@ -53,9 +53,20 @@ pub fn is_below(mask: u16, boards: usize) -> bool
 // The board is put into the mask at a place.
 pub fn mark(masks: &mut [u16], at: usize, board: usize)
     requires { ⌜ (at < length (now masks)) × (board < 16) ⌝ }
-    ensures { λ _. ⌜ now (masks .exit) ≡ set (now (masks .entry)) at (withBoard (getD (now (masks .entry)) at 0) board) ⌝ }
+    ensures { λ _. ⌜ now (masks .exit) ≡ marked (now (masks .entry)) at board ⌝ }
 {
     masks[at] = with_board(masks[at], board);
+}
+
+// The board gets a copy: it is live and, where the copy was written there, dirty.
+pub fn receive(masks: &mut [u16], live: usize, board: usize, written: bool)
+    requires { ⌜ (live + 1 < length (now masks)) × (board < 16) ⌝ }
+    ensures { λ _. ⌜ now (masks .exit) ≡ received (now (masks .entry)) live board written ⌝ }
+{
+    mark(masks, live, board);
+    if written {
+        mark(masks, live + 1, board);
+    }
 }
 
 // The board is taken out of the mask at a place.

@@ -1,4 +1,4 @@
--- `read` meets its contract: a walk of its MIR, by hand. `read_header` reads all but the records, `tail` finds their part, and the struct is put together. Assumes nothing.
+-- `read` meets its contract: a walk of its MIR, by hand. `read_header` reads all but the records, `part-from` finds their part, and the struct is put together. Assumes nothing.
 use mathlib.Core.Path.{_≡_, refl, ap, subst}
 use Prim.Native.Nat.{ℕ}
 use mathlib.Core.List.{List, [], _∷_}
@@ -50,10 +50,10 @@ use Rattle.sessions.proofs.reader.read_header as head
 use Rattle.sessions.proofs.reader.read_header.Symbol as head-def
 use Rattle.sessions.proofs.reader.read_header.Symbol.{name as #reader·read-header}
 use Rattle.sessions.proofs.reader.read_header.Met as head-thm
-use Rattle.sessions.proofs.bytes.tail as tail
-use Rattle.sessions.proofs.bytes.tail.Symbol as tail-def
-use Rattle.sessions.proofs.bytes.tail.Symbol.{name as #bytes·tail}
-use Rattle.sessions.proofs.bytes.tail.Met as tail-thm
+use Rattle.sessions.proofs.bytes.part_from as part-from
+use Rattle.sessions.proofs.bytes.part_from.Symbol as part-from-def
+use Rattle.sessions.proofs.bytes.part_from.Symbol.{name as #bytes·part-from}
+use Rattle.sessions.proofs.bytes.part_from.Met as part-from-thm
 use Rattle.sessions.proofs.read.Key.{name as #read}
 use Rattle.sessions.proofs.read as read
 use Rattle.sessions.proofs.read.Statement as stated
@@ -84,7 +84,7 @@ module _ {M : Type 1} (𝓤 : URA M) (H : Heap 𝓤) (A : Atoms 𝓤) (mem : Mem
   Head = tripleOf 𝓤 H A head.signature (head.spec 𝓤 H A mem run)
 
   abbrev Tail : Contract 𝓤
-  Tail = tripleOf 𝓤 H A tail.signature (tail.spec 𝓤 H A mem run)
+  Tail = tripleOf 𝓤 H A part-from.signature (part-from.spec 𝓤 H A mem run)
 
 module _ {M : Type 1} (𝓤 : URA M) (H : Heap 𝓤) (A : Atoms 𝓤) (W : Given 𝓤 H A) where
   header-typed : (h : Header) (u : Val) → Is Hd.the-row h (u ∷ []) → Typed h
@@ -138,29 +138,29 @@ module _ {M : Type 1} (𝓤 : URA M) (H : Heap 𝓤) (A : Atoms 𝓤) (W : Given
   abbrev Was-read : Header → List ℕ → Type 0
   Was-read h zs = Reads (now s) ys (without (h .from) (now s)) (h .number) (h .rule) (h .boards) (h .cells) zs
 
-  -- the call of `tail`, at the header h
-  abbrev at-tail : Header → Vals tail.signature (κ, tt)
-  at-tail h = (v ∷ [], (vint w64 (h .from) ∷ [], tt))
+  -- the call of `part-from`, at the header h
+  abbrev at-part-from : Header → Vals part-from.signature (κ, tt)
+  at-part-from h = (v ∷ [], (vint w64 (h .from) ∷ [], tt))
 
-  abbrev to-tail : Header → Tail 𝓤 H A mem run .Ghost
-  to-tail h = (((κ, tt), (q, tt), tt, (s, (h .from, tt)), at-tail h), tt)
+  abbrev to-part-from : Header → Tail 𝓤 H A mem run .Ghost
+  to-part-from h = (((κ, tt), (q, tt), tt, (s, (h .from, tt)), at-part-from h), tt)
 
-  goes-tail : (h : Header) → Typed h → ent 𝓤 (⋆ 𝓤 H A ((‵ (flft κ q) ⊛ (‵ (flft κ′ q′) ⊛ ‵ ftrue)) ∷ ‵ Own ∷ [])) (sep 𝓤 (Tail 𝓤 H A mem run .pre (to-tail h)) (sep 𝓤 (sem 𝓤 H A Own) (A .lft κ′ q′)))
-  goes-tail h wt =
+  goes-part-from : (h : Header) → Typed h → ent 𝓤 (⋆ 𝓤 H A ((‵ (flft κ q) ⊛ (‵ (flft κ′ q′) ⊛ ‵ ftrue)) ∷ ‵ Own ∷ [])) (sep 𝓤 (Tail 𝓤 H A mem run .pre (to-part-from h)) (sep 𝓤 (sem 𝓤 H A Own) (A .lft κ′ q′)))
+  goes-part-from h wt =
       qed W ((‵ (flft κ q) ⊛ (‵ (flft κ′ q′) ⊛ ‵ ftrue)) ∷ ‵ Own ∷ []) ∵
       move ! (1 ∷ []) $ use1 W (‵ Own ⊛ ‵ Own) (shr-slice-copy 𝓤 H A W (named 0) κ u8 .twice s (v ∷ [])) $ split ! $
       -- [what s owns; the same; the tokens]
       nothing ! $ owned ! usize (Is usize) (uint-makes 𝓤 H A W w64) (h .from) _ (refl, wt .1 .1 .1 .1 .1 .0 .fits) $ fjoin ! $ move ! (1 ∷ 0 ∷ []) $ fjoin ! $
-      -- [what `tail` is passed; what s owns; the tokens]
+      -- [what `part-from` is passed; what s owns; the tokens]
       move ! (2 ∷ []) $ split ! $ move ! (1 ∷ []) $ split ! $ move ! (2 ∷ 1 ∷ []) $ join ! $ move ! (0 ∷ 2 ∷ []) $
-      use2 W (raw (Tail 𝓤 H A mem run .pre (to-tail h))) (qed W ((‵ (flft κ q) ⊛ ‵ ftrue) ∷ ‵ (owns (ShrSlice (named 0) κ u8 ∷ usize ∷ []) (s, (h .from, tt)) (at-tail h)) ∷ []) ∵ join ! $ frame ! $ done !) $
+      use2 W (raw (Tail 𝓤 H A mem run .pre (to-part-from h))) (qed W ((‵ (flft κ q) ⊛ ‵ ftrue) ∷ ‵ (owns (ShrSlice (named 0) κ u8 ∷ usize ∷ []) (s, (h .from, tt)) (at-part-from h)) ∷ []) ∵ join ! $ frame ! $ done !) $
       frame ! $ move ! (1 ∷ 0 ∷ []) $ frame ! $ done !
 
   abbrev Found : Header → RefT (List ℕ) → Type 0
   Found h p = now p ≡ without (h .from) (now s)
 
-  tail-said : (h : Header) (p : RefT (List ℕ)) → ent 𝓤 (ensured 𝓤 H A tail.ended (tail.clauses 𝓤 H A mem run) (κ, tt) (s, (h .from, tt)) tt p) (fact 𝓤 (Found h p))
-  tail-said h p = exE 𝓤 _ (λ ws. snd∗ 𝓤 (sem 𝓤 H A (lasts tail.ended (κ, tt) (s, (h .from, tt)) ws)) (fact 𝓤 (Found h p)))
+  part-from-said : (h : Header) (p : RefT (List ℕ)) → ent 𝓤 (ensured 𝓤 H A part-from.ended (part-from.clauses 𝓤 H A mem run) (κ, tt) (s, (h .from, tt)) tt p) (fact 𝓤 (Found h p))
+  part-from-said h p = exE 𝓤 _ (λ ws. snd∗ 𝓤 (sem 𝓤 H A (lasts part-from.ended (κ, tt) (s, (h .from, tt)) ws)) (fact 𝓤 (Found h p)))
 
   abbrev Part : RefT (List ℕ) → List Val → Fml
   Part p vs = ShrSlice (named 0) κ u8 .own p vs
@@ -180,7 +180,7 @@ module _ {M : Type 1} (𝓤 : URA M) (H : Heap 𝓤) (A : Atoms 𝓤) (W : Given
       -- [what s owns; the result; the last list]
       nothing ! $ move ! (3 ∷ 0 ∷ []) $ fjoin ! $ move ! (1 ∷ 0 ∷ []) $ fjoin ! $ frame ! $ done !
 
-  module _ (C : Calls 𝓤 H) (Λ : Loops 𝓤 H) (fm : FmC 𝓤 H (W .laws) C) (known-head : Triple 𝓤 (C #reader·read-header) (Head 𝓤 H A mem run)) (known-tail : Triple 𝓤 (C #bytes·tail) (Tail 𝓤 H A mem run)) where
+  module _ (C : Calls 𝓤 H) (Λ : Loops 𝓤 H) (fm : FmC 𝓤 H (W .laws) C) (known-head : Triple 𝓤 (C #reader·read-header) (Head 𝓤 H A mem run)) (known-part-from : Triple 𝓤 (C #bytes·part-from) (Tail 𝓤 H A mem run)) where
     walk : Is (ShrSlice (named 0) κ u8) s (v ∷ []) → ent 𝓤 (onEntry 𝓤 H A read.signature κs (q, (q′, tt)) a at) (WpFn 𝓤 H C Λ code.function (v ∷ m ∷ []) Post)
     walk is-s =
         qed W (raw (onEntry 𝓤 H A read.signature κs (q, (q′, tt)) a at) ∷ []) ∵ enter ! C Λ code.function (v ∷ m ∷ []) _ $
@@ -199,11 +199,11 @@ module _ {M : Type 1} (𝓤 : URA M) (H : Heap 𝓤) (A : Atoms 𝓤) (W : Given
         move ! (3 ∷ []) $ split ! $ move ! (1 ∷ []) $ facts ! Hd.the-row (Is Hd.the-row) (shows 𝓤 H A Hd.the-row) h (u ∷ []) (λ is. let wt = header-typed 𝓤 H A W h u is in
         land ! (from ! (stop !)) (init ! 11 refl (LL.lawful Hd.the-type Hd′.the-laws 𝓤 H A W .typed h _ is .0)) $
         rewrite ! 11 (λ (w : Val). ‵ (fat fullShare Hd′.mir l₃ 0 w)) (ap only (LL.tells Hd.the-type Hd′.the-laws h (u ∷ []) is)) refl $
-        -- `tail`
-        move ! (0 ∷ 4 ∷ []) $ use2 W (raw (Tail 𝓤 H A mem run .pre (to-tail h)) ⊛ (‵ Own ⊛ ‵ (flft κ′ q′))) (goes-tail h wt) $ split ! $
-        calls-at ! fm (Tail 𝓤 H A mem run) known-tail (to-tail h) (and-then ! (load ! (from ! (stop !)) (look ! 15 refl)) (and-then ! (load ! (from ! (fld ! refl (stop !))) (look-in ! 11 (sub ! 4 refl (whole !)))) (no-more !))) (λ u′.
-        use1 W (later (some (λ (p : RefT (List ℕ)). ((‵ (flft κ q) ⊛ ‵ ftrue) ⊛ ‵ (Part p (u′ ∷ []))) ⊛ raw (ensured 𝓤 H A tail.ended (tail.clauses 𝓤 H A mem run) (κ, tt) (s, (h .from, tt)) tt p)))) (id⊢ 𝓤 _) $ await ! tt $ pick ! (λ p.
-        split ! $ move ! (1 ∷ []) $ use1 W (raw (fact 𝓤 (Found h p))) (tail-said h p) $ heard ! (Found h p) (λ f. split ! $ move ! (1 ∷ []) $
+        -- `part-from`
+        move ! (0 ∷ 4 ∷ []) $ use2 W (raw (Tail 𝓤 H A mem run .pre (to-part-from h)) ⊛ (‵ Own ⊛ ‵ (flft κ′ q′))) (goes-part-from h wt) $ split ! $
+        calls-at ! fm (Tail 𝓤 H A mem run) known-part-from (to-part-from h) (and-then ! (load ! (from ! (stop !)) (look ! 15 refl)) (and-then ! (load ! (from ! (fld ! refl (stop !))) (look-in ! 11 (sub ! 4 refl (whole !)))) (no-more !))) (λ u′.
+        use1 W (later (some (λ (p : RefT (List ℕ)). ((‵ (flft κ q) ⊛ ‵ ftrue) ⊛ ‵ (Part p (u′ ∷ []))) ⊛ raw (ensured 𝓤 H A part-from.ended (part-from.clauses 𝓤 H A mem run) (κ, tt) (s, (h .from, tt)) tt p)))) (id⊢ 𝓤 _) $ await ! tt $ pick ! (λ p.
+        split ! $ move ! (1 ∷ []) $ use1 W (raw (fact 𝓤 (Found h p))) (part-from-said h p) $ heard ! (Found h p) (λ f. split ! $ move ! (1 ∷ []) $
         -- [what the part owns; the token; what s owns, and the other token; the last list; …; …; _6; …]
         peeks ! (ShrSlice (named 0) κ u8) (Is (ShrSlice (named 0) κ u8)) (shows 𝓤 H A (ShrSlice (named 0) κ u8)) p (u′ ∷ []) (λ is-p.
         land ! (from ! (stop !)) (init ! 6 refl (shr-slice-lawful 𝓤 H A W erased κ u8 .typed p (u′ ∷ []) is-p .0)) $
@@ -217,17 +217,17 @@ module _ {M : Type 1} (𝓤 : URA M) (H : Heap 𝓤) (A : Atoms 𝓤) (W : Given
         keep ! (0 ∷ 1 ∷ 2 ∷ 3 ∷ []) $ by ! (exits h (zs .1 .0) p wt r l f))))))))))))))))))
 
 module _ {M : Type 1} (𝓤 : URA M) (H : Heap 𝓤) (A : Atoms 𝓤) (W : Given 𝓤 H A) (mem : Memory → SProp 𝓤) (run : Routine → Fun 𝓤) where
-  read-walks : (C : Calls 𝓤 H) (Λ : Loops 𝓤 H) → FmC 𝓤 H (W .laws) C → Triple 𝓤 (C #reader·read-header) (Head 𝓤 H A mem run) → Triple 𝓤 (C #bytes·tail) (Tail 𝓤 H A mem run)
+  read-walks : (C : Calls 𝓤 H) (Λ : Loops 𝓤 H) → FmC 𝓤 H (W .laws) C → Triple 𝓤 (C #reader·read-header) (Head 𝓤 H A mem run) → Triple 𝓤 (C #bytes·part-from) (Tail 𝓤 H A mem run)
       → Walks 𝓤 H A read.ended stayed (WpFn 𝓤 H C Λ code.function) (read.clauses 𝓤 H A mem run)
-  read-walks C Λ fm known-head known-tail = walked 𝓤 H A read.ended stayed (read.clauses 𝓤 H A mem run) (WpFn 𝓤 H C Λ code.function)
+  read-walks C Λ fm known-head known-part-from = walked 𝓤 H A read.ended stayed (read.clauses 𝓤 H A mem run) (WpFn 𝓤 H C Λ code.function)
       (λ κs. (slice-vals, (slice-vals, tt))) (λ κs. (shr-slice-tells (named 0) (κs .0) u8, (mut-slice-tells (named 1) (κs .1 .0) u32, tt)))
-      (λ κs qs bounds x g are. via 𝓤 _ (fst∗ 𝓤 _ (emp 𝓤)) (walk 𝓤 H A W mem run (κs .0) (κs .1 .0) (qs .0) (qs .1 .0) (x .0) (x .1 .0 .ptr .0) (x .1 .0 .ptr .1) (x .1 .0 .name) (x .1 .0 .now) (are .1 .0 .0 .1) C Λ fm known-head known-tail (are .0)))
+      (λ κs qs bounds x g are. via 𝓤 _ (fst∗ 𝓤 _ (emp 𝓤)) (walk 𝓤 H A W mem run (κs .0) (κs .1 .0) (qs .0) (qs .1 .0) (x .0) (x .1 .0 .ptr .0) (x .1 .0 .ptr .1) (x .1 .0 .name) (x .1 .0 .now) (are .1 .0 .0 .1) C Λ fm known-head known-part-from (are .0)))
 
-read-meets : {M : Type 1} (𝓤 : URA M) (H : Heap 𝓤) (A : Atoms 𝓤) (W : Given 𝓤 H A) (mem : Memory → SProp 𝓤) (run : Routine → Fun 𝓤) (𝓣 : Tables 𝓤 H) → Triple 𝓤 (𝓣 .C #reader·read-header) (Head 𝓤 H A mem run) → Triple 𝓤 (𝓣 .C #bytes·tail) (Tail 𝓤 H A mem run)
+read-meets : {M : Type 1} (𝓤 : URA M) (H : Heap 𝓤) (A : Atoms 𝓤) (W : Given 𝓤 H A) (mem : Memory → SProp 𝓤) (run : Routine → Fun 𝓤) (𝓣 : Tables 𝓤 H) → Triple 𝓤 (𝓣 .C #reader·read-header) (Head 𝓤 H A mem run) → Triple 𝓤 (𝓣 .C #bytes·part-from) (Tail 𝓤 H A mem run)
     → Meets 𝓤 H A read.signature (WpFn 𝓤 H (𝓣 .C) (𝓣 .Λ) code.function) (read.spec 𝓤 H A mem run)
-read-meets 𝓤 H A W mem run 𝓣 known-head known-tail =
+read-meets 𝓤 H A W mem run 𝓣 known-head known-part-from =
     walk-meets 𝓤 H A read.ended stayed W (goes-none-slice 𝓤 H A W 2 (0 ∷ []) tt (plain (λ _. u8)) yes, (goes-gave-slice 𝓤 H A W 2 1 tt (plain (λ _. u32)), tt))
-    (read.clauses 𝓤 H A mem run) (WpFn 𝓤 H (𝓣 .C) (𝓣 .Λ) code.function) (WpFn-mono 𝓤 H (W .laws) 𝓣 code.function) (read-walks 𝓤 H A W mem run (𝓣 .C) (𝓣 .Λ) (fmOf 𝓤 H (W .laws) 𝓣) known-head known-tail)
+    (read.clauses 𝓤 H A mem run) (WpFn 𝓤 H (𝓣 .C) (𝓣 .Λ) code.function) (WpFn-mono 𝓤 H (W .laws) 𝓣 code.function) (read-walks 𝓤 H A W mem run (𝓣 .C) (𝓣 .Λ) (fmOf 𝓤 H (W .laws) 𝓣) known-head known-part-from)
 
 pub read-spec : {M : Type 1} → stated.statement M
 unfolding code.routine tablesOf
@@ -236,4 +236,4 @@ read-spec 𝓤 H 𝓜 𝓖 𝓡 =
     (tables 𝓤 H 𝓜 𝓡 code.env .C) (tables 𝓤 H 𝓜 𝓡 code.env .Λ) #read code.function (code.unfolded 𝓤 H 𝓜 𝓡)
     (read-meets 𝓤 H (𝓖 .A) (givenOf 𝓤 H 𝓜 𝓖) (𝓜 .mem) (𝓡 .run) (tablesOf 𝓤 H 𝓜 (tables 𝓤 H 𝓜 𝓡 code.env))
     (cited 𝓤 H (Head 𝓤 H (𝓖 .A) (𝓜 .mem) (𝓡 .run)) 𝓜 𝓡 code.env #reader·read-header head-def.routine code.calls-sessions·reader·read-header (head-thm.met 𝓤 H 𝓜 𝓖 𝓡))
-    (cited 𝓤 H (Tail 𝓤 H (𝓖 .A) (𝓜 .mem) (𝓡 .run)) 𝓜 𝓡 code.env #bytes·tail tail-def.routine code.calls-sessions·bytes·tail (tail-thm.met 𝓤 H 𝓜 𝓖 𝓡)))
+    (cited 𝓤 H (Tail 𝓤 H (𝓖 .A) (𝓜 .mem) (𝓡 .run)) 𝓜 𝓡 code.env #bytes·part-from part-from-def.routine code.calls-sessions·bytes·part-from (part-from-thm.met 𝓤 H 𝓜 𝓖 𝓡)))

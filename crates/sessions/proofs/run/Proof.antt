@@ -20,8 +20,8 @@ same-length-3 c = search needs
 returns : tie.Need-returns
 returns c = refused _ _ _ _ _ (c .before .refusal .ensures) (c .if1 .taken)
 
-perform-requires : tie.Need-perform-requires
-perform-requires c κs = search needs
+run-accepted-requires : tie.Need-run-accepted-requires
+run-accepted-requires c κs = search needs
 
 same-length-4 : tie.Need-same-length-4
 same-length-4 c = search needs
@@ -39,7 +39,7 @@ same-length-8 : tie.Need-same-length-8
 same-length-8 c = search needs
 
 returns-2 : tie.Need-returns-2
-returns-2 c = done _ _ _ _ _ _ _ _ (sym (c .before .before .before .before .before .before .before .before .before .before .before .before .before .before .before .before .before .refusal .ensures) ∙ c .before .before .before .before .before .before .before .before .before .before .before .before .before .before .before .before .if1 .left) (c .before .before .before .before .before .before .before .before .before .before .perform .ensures)
+returns-2 c = done _ _ _ _ _ _ _ _ (sym (c .before .before .before .before .before .before .before .before .before .before .before .before .before .before .before .before .before .refusal .ensures) ∙ c .before .before .before .before .before .before .before .before .before .before .before .before .before .before .before .before .if1 .left) (c .before .before .before .before .before .before .before .before .before .before .run-accepted .ensures)
 
 pub run-spec : {M : Type 1} → statement M
 run-spec =
@@ -50,7 +50,7 @@ run-spec =
     same-length-2
     same-length-3
     returns
-    perform-requires
+    run-accepted-requires
     same-length-4
     same-length-5
     same-length-6

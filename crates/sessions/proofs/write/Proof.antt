@@ -24,20 +24,17 @@ put-header-requires c κs = let f = fitting (c .before) in (omega (arith, f .roo
 put-values-requires : tie.Need-put-values-requires
 put-values-requires c κs = let f = fitting (c .before .before .before .before .before) in omega (arith, f .roomy, f .sizes .matching, c .before .before .before .put-header .kept .0)
 
-mul-put-bytes : tie.Need-mul-put-bytes
-mul-put-bytes c = omega (arith, fitting (c .before .before .before .before .before .before .before .before .before) .sizes .few-cells)
-
-add-put-bytes : tie.Need-add-put-bytes
-add-put-bytes c = omega (arith, fitting (c .before .before .before .before .before .before .before .before .before) .sizes .few-cells)
+records-at-requires : tie.Need-records-at-requires
+records-at-requires c κs = omega (arith, fitting (c .before .before .before .before .before .before .before .before .before) .sizes .few-cells)
 
 put-bytes-requires : tie.Need-put-bytes-requires
-put-bytes-requires c κs = let f = fitting (c .before .before .before .before .before .before .before .before .before) in omega (arith, f .roomy, c .before .before .before .before .before .before .before .put-header .kept .0, c .before .before .before .put-values .kept .0)
+put-bytes-requires c κs = let f = fitting (c .before .before .before .before .before .before .before .before .before .before) in omega (arith, f .roomy, c .before .before .before .before .before .before .before .before .put-header .kept .0, c .before .before .before .before .put-values .kept .0, c .records-at .ensures)
 
 same-length : tie.Need-same-length
 same-length c = search needs
 
 returns-2 : tie.Need-returns-2
-returns-2 c = accepted _ _ _ _ _ _ _ (c .before .before .before .before .before .before .before .before .before .before .before .before .before .refusal .ensures) (c .before .before .before .before .before .before .before .before .before .before .before .before .if1 .left) _ _ _ (c .before .before .before .before .before .before .before .before .before .before .put-header .ensures) (c .before .before .before .before .before .before .put-values .ensures) (c .before .before .put-bytes .ensures)
+returns-2 c = accepted _ _ _ _ _ _ _ (c .before .before .before .before .before .before .before .before .before .before .before .before .before .before .refusal .ensures) (c .before .before .before .before .before .before .before .before .before .before .before .before .before .if1 .left) _ _ _ (c .before .before .before .before .before .before .before .before .before .before .before .put-header .ensures) (c .before .before .before .before .before .before .before .put-values .ensures) (c .before .before .put-bytes .ensures ∙ rw (c .before .before .before .records-at .ensures))
 
 pub write-spec : {M : Type 1} → statement M
 write-spec =
@@ -47,8 +44,7 @@ write-spec =
     returns
     put-header-requires
     put-values-requires
-    mul-put-bytes
-    add-put-bytes
+    records-at-requires
     put-bytes-requires
     same-length
     returns-2)

@@ -1,37 +1,43 @@
--- `masks` prints each number of a slice. Assumes nothing.
-use Prim.Native.Nat.{_-_, _≤_}
-use lib.ListN.{length}
-use borrow.Author.Needs.{needs}
+-- `masks` tells each number of a slice. Assumes nothing.
 use native.Mathlib.Omega.{arith}
+use borrow.Author.Needs.{needs}
+use lib.ListN.{length}
+use Prim.Native.Nat.{_≤_, _-_}
 use Rattle.cases.proofs.print.masks.Statement.{statement}
 use Rattle.cases.proofs.print.masks.Tie as tie
 
 abbrev Inv-loop : tie.InvT-loop
-Inv-loop s i₀ i = i ≤ length s
+Inv-loop has s sum₀ i₀ sum i = i ≤ length s
 
 abbrev μ-loop : tie.MeasureT-loop
-μ-loop s i₀ i = length s - i
+μ-loop has s sum₀ i₀ sum i = length s - i
 
 loop-holds : tie.Need-loop-holds Inv-loop μ-loop
-loop-holds c = omega arith
+loop-holds c = search needs
 
-mul-mask : tie.Need-mul-mask Inv-loop μ-loop
-mul-mask c = search needs
+mul-tell : tie.Need-mul-tell Inv-loop μ-loop
+mul-tell c = search needs
 
-shared-slice-read-mask : tie.Need-shared-slice-read-mask Inv-loop μ-loop
-shared-slice-read-mask c = search needs
+shared-slice-read-tell : tie.Need-shared-slice-read-tell Inv-loop μ-loop
+shared-slice-read-tell c = search needs
 
-mask-requires : tie.Need-mask-requires Inv-loop μ-loop
-mask-requires c κs = search needs
+cast-tell : tie.Need-cast-tell Inv-loop μ-loop
+cast-tell c = omega (arith, c .shared-slice-known2 .given (c .before .before .loop .i))
+
+tell-requires : tie.Need-tell-requires Inv-loop μ-loop
+tell-requires c κs = search needs
 
 add-i : tie.Need-add-i Inv-loop μ-loop
 add-i c = search needs
 
 loop-less : tie.Need-loop-less Inv-loop μ-loop
-loop-less c = omega arith
+loop-less c = search needs
 
 loop-again : tie.Need-loop-again Inv-loop μ-loop
-loop-again c = omega arith
+loop-again c = search needs
+
+end-requires : tie.Need-end-requires Inv-loop μ-loop
+end-requires c κs = search needs
 
 returns : tie.Need-returns Inv-loop μ-loop
 returns c = search needs
@@ -43,10 +49,12 @@ masks-spec =
     Inv-loop
     μ-loop
     loop-holds
-    mul-mask
-    shared-slice-read-mask
-    mask-requires
+    mul-tell
+    shared-slice-read-tell
+    cast-tell
+    tell-requires
     add-i
     loop-less
     loop-again
+    end-requires
     returns)

@@ -6,17 +6,17 @@ use borrow.Author.Needs.{needs}
 use Rattle.listing.proofs.lent.sizes.Statement.{statement}
 use Rattle.listing.proofs.lent.sizes.Tie as tie
 
-sizes-in-requires : tie.Need-sizes-in-requires
-sizes-in-requires c κs = search needs
+head-of-requires : tie.Need-head-of-requires
+head-of-requires c κs = search needs
 
 in-range-requires : tie.Need-in-range-requires
 in-range-requires c κs = search needs
 
 returns : tie.Need-returns
-returns c = out-of-range _ _ (c .before .before .sizes-in .ensures) (sym (c .before .in-range .ensures) ∙ not-true _ (c .if1 .taken))
+returns c = out-of-range _ _ (c .before .before .head-of .ensures) (sym (c .before .in-range .ensures) ∙ not-true _ (c .if1 .taken))
 
 returns-2 : tie.Need-returns-2
-returns-2 c = in-range _ _ (c .before .before .sizes-in .ensures) (sym (c .before .in-range .ensures) ∙ not-false _ (c .if1 .left))
+returns-2 c = in-range _ _ (c .before .before .head-of .ensures) (sym (c .before .in-range .ensures) ∙ not-false _ (c .if1 .left))
 
 pub sizes-spec : {M : Type 1} → statement M
-sizes-spec = tie.close (tie.spec sizes-in-requires in-range-requires returns returns-2)
+sizes-spec = tie.close (tie.spec head-of-requires in-range-requires returns returns-2)

@@ -3,7 +3,7 @@ use mathlib.Core.Path.{sym, _∙_}
 use native.Mathlib.Omega.{arith}
 use lib.ListN.{length}
 use Rattle.sessions.proofs.AcceptedLaws.{Readable, readable}
-use Rattle.sessions.proofs.BytesLaws.{sizes-are}
+use Rattle.sessions.proofs.BytesLaws.{head-says}
 use Rattle.sessions.proofs.ReadLaws.{reads-refused, reads-accepted}
 use borrow.Author.Needs.{needs}
 use Rattle.sessions.proofs.reader.read_header.Statement.{statement}
@@ -22,23 +22,16 @@ returns c = reads-refused _ _ _ (c .before .refusal .ensures) (c .if1 .taken)
 read-values-requires : tie.Need-read-values-requires
 read-values-requires c κs = omega (arith, good (c .before) .valued, good (c .before) .sizes .matching)
 
-sizes-in-requires : tie.Need-sizes-in-requires
-sizes-in-requires c κs = search needs
-
-shared-slice-read-t12 : tie.Need-shared-slice-read-t12
-shared-slice-read-t12 c = omega (arith, good (c .before .before .before .before .before .before) .valued)
-
-mul-t5 : tie.Need-mul-t5
-mul-t5 c = search needs
-
-add-t13 : tie.Need-add-t13
-add-t13 c = search needs
+head-of-requires : tie.Need-head-of-requires
+head-of-requires c κs = search needs
 
 same-length : tie.Need-same-length
 same-length c = search needs
 
 returns-2 : tie.Need-returns-2
-returns-2 c = reads-accepted _ _ _ (c .before .before .before .before .before .before .before .before .refusal .ensures) (c .before .before .before .before .before .before .before .if1 .left) _ _ (sizes-are _ _ (c .before .before .sizes-in .ensures) (good (c .before .before .before .before .before .before .before) .headed-whole)) _ (c .before .before .before .before .before .read-values .ensures)
+returns-2 c =
+    let says = head-says _ _ (c .head-of .ensures) (good (c .before .before .before .before .before) .headed-whole) in
+    reads-accepted _ _ _ (c .before .before .before .before .before .before .refusal .ensures) (c .before .before .before .before .before .if1 .left) _ says _ (c .before .before .before .read-values .ensures)
 
 pub read-header-spec : {M : Type 1} → statement M
 read-header-spec =
@@ -47,9 +40,6 @@ read-header-spec =
     refusal-requires
     returns
     read-values-requires
-    sizes-in-requires
-    shared-slice-read-t12
-    mul-t5
-    add-t13
+    head-of-requires
     same-length
     returns-2)

@@ -6,15 +6,9 @@ use borrow.Author.Needs.{needs}
 use Rattle.sessions.proofs.refusals.body_bad.Statement.{statement}
 use Rattle.sessions.proofs.refusals.body_bad.Tie as tie
 
-mul-from : tie.Need-mul-from
-mul-from c = search needs
-
-add-from : tie.Need-add-from
-add-from c = search needs
-
 returns : tie.Need-returns
 unfolding bodyBad
-returns c = rw (sym (c .before .before .pre .0), lt-ltb _ _ (c .if1 .taken))
+returns c = rw (sym (c .before .before .pre), lt-ltb _ _ (c .if1 .taken))
 
 sub-records-bad : tie.Need-sub-records-bad
 sub-records-bad c = search needs
@@ -24,8 +18,8 @@ records-bad-requires c κs = search needs
 
 returns-2 : tie.Need-returns-2
 unfolding bodyBad
-returns-2 c = rw (sym (c .before .before .before .pre .0), le-ltb _ _ (c .before .if1 .left)) (c .records-bad .ensures)
+returns-2 c = rw (sym (c .before .before .before .pre), le-ltb _ _ (c .before .if1 .left)) (c .records-bad .ensures)
 
 pub body-bad-spec : {M : Type 1} → statement M
 body-bad-spec =
-    tie.close (tie.spec mul-from add-from returns sub-records-bad records-bad-requires returns-2)
+    tie.close (tie.spec returns sub-records-bad records-bad-requires returns-2)

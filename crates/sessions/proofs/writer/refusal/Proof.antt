@@ -23,20 +23,17 @@ body-refusal-requires c κs = search needs
 returns : tie.Need-returns
 returns c = c .before .body-refusal .ensures ∙ write-body _ _ _ _ _ _ _ (c .before .before .before .in-range .ensures) (c .before .before .records-bad .ensures) _ (λ z. c .if1 .taken (c .before .body-refusal .ensures ∙ z))
 
-mul-if2 : tie.Need-mul-if2
-mul-if2 c = omega (arith, small c .0)
+records-at-requires : tie.Need-records-at-requires
+records-at-requires c κs = omega (arith, small c .0)
 
 add-if2 : tie.Need-add-if2
-add-if2 c = omega (arith, small c .0)
-
-add-if2-2 : tie.Need-add-if2-2
-add-if2-2 c = omega (arith, small c .0, small c .1)
+add-if2 c = omega (arith, small (c .before) .0, small (c .before) .1, c .records-at .ensures)
 
 returns-2 : tie.Need-returns-2
-returns-2 c = write-short _ _ _ _ _ _ _ (c .before .before .before .before .in-range .ensures) (c .before .before .before .records-bad .ensures) _ (sym (c .before .before .body-refusal .ensures) ∙ c .before .if1 .left) (c .if2 .taken)
+returns-2 c = write-short _ _ _ _ _ _ _ (c .before .before .before .before .before .in-range .ensures) (c .before .before .before .before .records-bad .ensures) _ (sym (c .before .before .before .body-refusal .ensures) ∙ c .before .before .if1 .left) (omega (arith, c .if2 .taken, c .before .records-at .ensures))
 
 returns-3 : tie.Need-returns-3
-returns-3 c = write-roomy _ _ _ _ _ _ _ (c .before .before .before .before .in-range .ensures) (c .before .before .before .records-bad .ensures) _ (sym (c .before .before .body-refusal .ensures) ∙ c .before .if1 .left) (c .if2 .left)
+returns-3 c = write-roomy _ _ _ _ _ _ _ (c .before .before .before .before .before .in-range .ensures) (c .before .before .before .before .records-bad .ensures) _ (sym (c .before .before .before .body-refusal .ensures) ∙ c .before .before .if1 .left) (omega (arith, c .if2 .left, c .before .records-at .ensures))
 
 pub refusal-spec : {M : Type 1} → statement M
 refusal-spec =
@@ -46,8 +43,7 @@ refusal-spec =
     records-bad-requires
     body-refusal-requires
     returns
-    mul-if2
+    records-at-requires
     add-if2
-    add-if2-2
     returns-2
     returns-3)

@@ -46,11 +46,8 @@ mul-copies c = search needs
 slice-write-copies : tie.Need-slice-write-copies
 slice-write-copies c = search needs
 
-mark-requires : tie.Need-mark-requires
-mark-requires c κs = search needs
-
-mark-requires-2 : tie.Need-mark-requires-2
-mark-requires-2 c κs = search needs
+receive-requires : tie.Need-receive-requires
+receive-requires c κs = search needs
 
 mul-copies-2 : tie.Need-mul-copies-2
 mul-copies-2 c = search needs
@@ -64,8 +61,8 @@ mul-copies-3 c = search needs
 slice-write-copies-2 : tie.Need-slice-write-copies-2
 slice-write-copies-2 c = search needs
 
-mark-requires-3 : tie.Need-mark-requires-3
-mark-requires-3 c κs = search needs
+receive-requires-2 : tie.Need-receive-requires-2
+receive-requires-2 c κs = search needs
 
 mul-main : tie.Need-mul-main
 mul-main c = search needs
@@ -94,8 +91,8 @@ mul-copies-5 c = search needs
 slice-write-copies-3 : tie.Need-slice-write-copies-3
 slice-write-copies-3 c = search needs
 
-mark-requires-4 : tie.Need-mark-requires-4
-mark-requires-4 c κs = search needs
+receive-requires-3 : tie.Need-receive-requires-3
+receive-requires-3 c κs = search needs
 
 mul-copies-6 : tie.Need-mul-copies-6
 mul-copies-6 c = search needs
@@ -106,8 +103,8 @@ slice-write-copies-4 c = search needs
 unmark-requires-2 : tie.Need-unmark-requires-2
 unmark-requires-2 c κs = search needs
 
-mark-requires-5 : tie.Need-mark-requires-5
-mark-requires-5 c κs = search needs
+mark-requires : tie.Need-mark-requires
+mark-requires c κs = search needs
 
 unmark-requires-3 : tie.Need-unmark-requires-3
 unmark-requires-3 c κs = search needs
@@ -122,7 +119,7 @@ same-length-2 : tie.Need-same-length-2
 same-length-2 c = search needs
 
 returns-2 : tie.Need-returns-2
-returns-2 c = rw (c .before .before .before .before .before .before .before .before .match .keys2) (does-write _ _ _ _ _ _ _ (c .before .before .before .before .before .before .before .before .before .before .before .before .pre .0) _ _ (c .before .before .before .before .before .before .mark .ensures) (c .before .before .mark2 .ensures))
+returns-2 c = rw (c .before .before .before .before .match .keys2) (does-write _ _ _ _ _ _ _ (c .before .before .before .before .before .before .before .before .pre .0) _ (c .before .before .receive .ensures))
 
 returns-3 : tie.Need-returns-3
 returns-3 c = rw (c .match .keys3) (does-barrier _ _ _ _ _ _ _ (c .before .before .before .before .pre .0))
@@ -134,7 +131,7 @@ same-length-4 : tie.Need-same-length-4
 same-length-4 c = search needs
 
 returns-4 : tie.Need-returns-4
-returns-4 c = rw (c .before .before .before .before .before .match .keys4) (does-mtoc _ _ _ _ _ _ _ (c .before .before .before .before .before .before .before .before .before .pre .0) _ (c .before .before .mark3 .ensures))
+returns-4 c = rw (c .before .before .before .before .before .match .keys4) (does-mtoc _ _ _ _ _ _ _ (c .before .before .before .before .before .before .before .before .before .pre .0) _ (c .before .before .receive2 .ensures))
 
 same-length-5 : tie.Need-same-length-5
 same-length-5 c = search needs
@@ -152,7 +149,7 @@ same-length-8 : tie.Need-same-length-8
 same-length-8 c = search needs
 
 returns-6 : tie.Need-returns-6
-returns-6 c = rw (c .before .before .before .before .before .match .keys6) (does-ctoc _ _ _ _ _ _ _ (c .before .before .before .before .before .before .before .before .before .pre .0) _ (c .before .before .mark4 .ensures))
+returns-6 c = rw (c .before .before .before .before .before .match .keys6) (does-ctoc _ _ _ _ _ _ _ (c .before .before .before .before .before .before .before .before .before .pre .0) _ (c .before .before .receive3 .ensures))
 
 same-length-9 : tie.Need-same-length-9
 same-length-9 c = search needs
@@ -167,7 +164,7 @@ same-length-11 : tie.Need-same-length-11
 same-length-11 c = search needs
 
 returns-8 : tie.Need-returns-8
-returns-8 c = rw (c .before .before .before .before .match .keys8) (does-acquire _ _ _ _ _ _ _ (c .before .before .before .before .before .before .before .before .pre .0) _ (c .before .before .mark5 .ensures))
+returns-8 c = rw (c .before .before .before .before .match .keys8) (does-acquire _ _ _ _ _ _ _ (c .before .before .before .before .before .before .before .before .pre .0) _ (c .before .before .mark .ensures))
 
 same-length-12 : tie.Need-same-length-12
 same-length-12 c = search needs
@@ -196,13 +193,12 @@ perform-spec =
     slice-read-result
     mul-copies
     slice-write-copies
-    mark-requires
-    mark-requires-2
+    receive-requires
     mul-copies-2
     slice-read-copies
     mul-copies-3
     slice-write-copies-2
-    mark-requires-3
+    receive-requires-2
     mul-main
     slice-read-main
     mul-main-2
@@ -212,11 +208,11 @@ perform-spec =
     slice-read-copies-2
     mul-copies-5
     slice-write-copies-3
-    mark-requires-4
+    receive-requires-3
     mul-copies-6
     slice-write-copies-4
     unmark-requires-2
-    mark-requires-5
+    mark-requires
     unmark-requires-3
     returns
     same-length
