@@ -216,7 +216,9 @@ static struct times run_of(const struct place *place) {
 
 static double ratio(struct times t) { return t.ours / t.twin; }
 
-static void bar(const char *what, double worst, double bar) { printf("%s: at most %.2f, bar %.1f%s\n", what, worst, bar, worst > bar ? ", MISSED" : ""); }
+static void bar(const char *what, double worst, double bar) {
+    printf("%s: at most %.2f, bar %.1f%s\n", what, worst, bar, worst > bar ? ", MISSED" : "");
+}
 
 #define EACH_PLACE for (unsigned rule = 0; rule < RULES; rule++) for (unsigned i = 0; i < SIZES; i++)
 
