@@ -3,7 +3,7 @@ use mathlib.Core.Path.{_≡_, refl, sym, ap, _∙_}
 use mathlib.Core.Logic.{_≢_, inl, inr}
 use mathlib.Core.Bool.{Bool, true, false}
 use mathlib.Core.List.{[], _∷_}
-use Prim.Native.Nat.{ℕ, _+_, _*_, _^_, _<_, _≤_}
+use Prim.Native.Nat.{ℕ, _+_, _*_, _<_, _≤_}
 use lib.ListN.{getD}
 use native.Mathlib.Omega.{arith}
 use native.Mathlib.Decide.{ℕ-discrete, decLt}
@@ -22,9 +22,9 @@ use Rattle.protocol.proofs.StepLaws.{accepted-value}
 use Rattle.protocol.proofs.Demand1.{accepted-exactly, refused-changes-nothing}
 use Rattle.protocol.proofs.RefusalOrder.{answers-3, answers-4, answers-7, answers-guard}
 use Rattle.table.specs.Statements.{Steps}
-use Rattle.table.specs.Code.{Ready, Room, MasksAt, currentAt, GuardGives, Performs}
+use Rattle.table.specs.Code.{Ready, Room, MasksAt, currentAt, masksSound, copiesSound, GuardGives, Performs}
 use Rattle.table.proofs.ReadyLaws.{ready, room, copy-is, as-live, as-dirty, as-lock, current-is}
-use Rattle.table.proofs.SoundLaws.{sound-below}
+use Rattle.table.proofs.SoundLaws.{masks-below, unsound-masks, by-copies}
 
 -- the boards of an action that is well formed and on the table: an unused `to` is 0
 boards-in : (boards : ℕ) (a : Action) → 1 ≤ boards → malformed a ≡ false → offBoard boards a ≡ false → (a .board < boards) × (a .to < boards)
@@ -109,18 +109,25 @@ module _ (rule boards cells : ℕ) (t : Table) (a : Action) (c : Cleared rule bo
   pub cleared-boards : (a .board < boards) × (a .to < boards)
   cleared-boards = boards-in boards a (cleared-ready .some-board) (c .formed) (c .boarded)
 
-  pub cleared-7 : sound (ruleOf rule) boards here ≡ false → 7 ≡ answer rule boards cells t a .number
+  cleared-7 : sound (ruleOf rule) boards here ≡ false → 7 ≡ answer rule boards cells t a .number
   cleared-7 s = sym (answers-7 rule boards cells t a .1 (c .sizes, c .ruled, c .formed, c .there, c .boarded, c .inside, s))
 
-  module _ (s : sound (ruleOf rule) boards here ≡ true) (live dirty lock : ℕ) (at : MasksAt (t masks) (a .cell) live dirty lock) where
-    pub dirty-below : dirty < 2 ^ boards
-    dirty-below = sound-below rule boards cells (a .cell) t (c .ruled) cleared-ready live dirty lock at s
+  module _ (live dirty lock : ℕ) (at : MasksAt (t masks) (a .cell) live dirty lock) where
+    pub cleared-masks : masksSound rule boards live dirty lock ≡ false → 7 ≡ answer rule boards cells t a .number
+    cleared-masks e = cleared-7 (unsound-masks rule boards cells (a .cell) t (c .ruled) cleared-ready live dirty lock at e)
 
-    -- the guard, on what the code has read of the cell
-    pub cleared-guard : (now n : ℕ) → now ≡ currentAt boards (a .cell) dirty (t main) (t copies) →
-        GuardGives rule live dirty lock (getD (t copies) (a .cell * boards + a .board) 0) now a n → n ≡ answer rule boards cells t a .number
-    cleared-guard now n z g =
-        let y = cleared-ready in
-        g here (as-live boards cells (a .cell) t y live dirty lock at) (as-dirty boards cells (a .cell) t y live dirty lock at) (as-lock boards cells (a .cell) t y live dirty lock at)
-        (copy-is boards cells (a .cell) t y (a .board) (cleared-boards .0)) (current-is boards cells (a .cell) t y live dirty lock at dirty-below ∙ sym z)
-        ∙ sym (answers-guard rule boards cells t a (c .sizes, c .ruled, c .formed, c .there, c .boarded, c .inside, s))
+    module _ (q : masksSound rule boards live dirty lock ≡ true) (now : ℕ) (z : now ≡ currentAt boards (a .cell) dirty (t main) (t copies)) where
+      judged : copiesSound rule boards (a .cell) live now (t copies) boards ≡ sound (ruleOf rule) boards here
+      judged = by-copies rule boards cells (a .cell) t (c .ruled) cleared-ready live dirty lock at q now z
+
+      pub cleared-copies : copiesSound rule boards (a .cell) live now (t copies) boards ≡ false → 7 ≡ answer rule boards cells t a .number
+      cleared-copies e = cleared-7 (sym judged ∙ e)
+
+      -- the guard, on what the code has read of the cell
+      pub cleared-guard : copiesSound rule boards (a .cell) live now (t copies) boards ≡ true →
+          (n : ℕ) → GuardGives rule live dirty lock (getD (t copies) (a .cell * boards + a .board) 0) now a n → n ≡ answer rule boards cells t a .number
+      cleared-guard e n g =
+          let y = cleared-ready in
+          g here (as-live boards cells (a .cell) t y live dirty lock at) (as-dirty boards cells (a .cell) t y live dirty lock at) (as-lock boards cells (a .cell) t y live dirty lock at)
+          (copy-is boards cells (a .cell) t y (a .board) (cleared-boards .0)) (current-is boards cells (a .cell) t y live dirty lock at (masks-below rule boards live dirty lock q) ∙ sym z)
+          ∙ sym (answers-guard rule boards cells t a (c .sizes, c .ruled, c .formed, c .there, c .boarded, c .inside, sym judged ∙ e))

@@ -12,11 +12,11 @@ use Rattle.protocol.specs.Masks.{hasBoard}
 use Rattle.protocol.specs.Slices.{Table, copies, main, masks}
 use Rattle.protocol.specs.Cell.{Cell, copyAt, liveMask, dirtyMask, lockMask, cellOf, currentValue}
 use Rattle.protocol.specs.Soundness.{Condition, noBitAtPOrAbove, notLiveHolds0, lockMaskIs0, dirtyIsLive, oneDirty, liveIsCurrent, oneLock, lockedIsOnly, dirtyIsLocked}
-use Rattle.protocol.specs.Soundness.{from, upTo, askedBy, meets, sound}
+use Rattle.protocol.specs.Soundness.{from, upTo, askedBy, everyBoard, meets, sound}
 use Rattle.protocol.proofs.Booleans.{clash, not-so, and-left, and-right, and-both, board-at, board-of}
 use Rattle.protocol.proofs.NumberLaws.{by-rule}
 use Rattle.protocol.proofs.SoundExactly.{of-sound, sound-of}
-use Rattle.table.specs.Code.{Ready, MasksAt, currentAt, within, masksSound, copySound}
+use Rattle.table.specs.Code.{Ready, MasksAt, currentAt, within, masksSound, copySound, copiesSound}
 use Rattle.table.proofs.MaskTests.{within-boards, boards-within, alone-boards, boards-alone}
 use Rattle.table.proofs.ReadyLaws.{copy-is, as-live, as-dirty, as-lock, current-is}
 
@@ -197,10 +197,6 @@ module _ (rule boards cells cell : ℕ) (t : Table) (h : rule ≤ 4) (y : Ready 
   pub unsound-masks : masksSound rule boards live dirty lock ≡ false → sound (ruleOf rule) boards here ≡ false
   unsound-masks e = not-so _ (λ s. clash (sym same-masks ∙ sound-masks rule boards h here s) e)
 
-  -- a sound cell has no dirty board at P or above
-  pub sound-below : sound (ruleOf rule) boards here ≡ true → dirty < 2 ^ boards
-  sound-below s = masks-below rule boards live dirty lock (sym same-masks ∙ sound-masks rule boards h here s)
-
   -- what the code asks of a board's copy
   abbrev pub passes : (now board : ℕ) → Bool
   passes now board = copySound rule live (getD (t copies) (cell * boards + board) 0) now board
@@ -219,3 +215,11 @@ module _ (rule boards cells cell : ℕ) (t : Table) (h : rule ≤ 4) (y : Ready 
 
     pub all-boards : ((p : ℕ) → p < boards → passes now p ≡ true) → sound (ruleOf rule) boards here ≡ true
     all-boards f = parts-sound rule boards h here (same-masks ∙ q) (λ p l. same-board p l ∙ f p l)
+
+    -- every copy looked at
+    pub by-copies : copiesSound rule boards cell live now (t copies) boards ≡ sound (ruleOf rule) boards here
+    by-copies = go (everyBoard boards (passes now)) refl
+      where
+        go : (b : Bool) → everyBoard boards (passes now) ≡ b → everyBoard boards (passes now) ≡ sound (ruleOf rule) boards here
+        go true e = e ∙ sym (all-boards (board-at boards (passes now) e))
+        go false e = e ∙ sym (not-so _ (λ s. clash (board-of boards (passes now) (λ p l. sym (same-board p l) ∙ sound-copy rule boards h here s p l)) e))

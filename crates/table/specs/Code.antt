@@ -13,6 +13,7 @@ use Rattle.protocol.specs.Slices.{Slice, main, copies, masks, Table, width}
 use Rattle.protocol.specs.Effects.{effect, valueOf, storesIn}
 use Rattle.table.specs.Statements.{Holds}
 use Rattle.protocol.specs.Cell.{Cell, cellOf, copyAt, liveMask, dirtyMask, lockMask, currentValue}
+use Rattle.protocol.specs.Soundness.{everyBoard}
 use Rattle.protocol.specs.First.{firstNumber}
 use Rattle.protocol.specs.Guards.{guard}
 use Rattle.protocol.specs.declared.Action.{Action}
@@ -64,6 +65,10 @@ masksSound rule boards live dirty lock =
 -- soundness of one board's copy: 0 where it is not live, the current value where it is (Inv4)
 unfoldable pub copySound : (rule live copy current board : ℕ) → Bool
 copySound rule live copy current board = (hasBoard live board || eqb copy 0) && (ltb rule 2 || (not (hasBoard live board) || eqb copy current))
+
+-- and of the first copies of a cell
+abbrev pub copiesSound : (rule boards cell live current : ℕ) → (inCopies : List ℕ) → (first : ℕ) → Bool
+copiesSound rule boards cell live current inCopies first = everyBoard first (λ p. copySound rule live (getD inCopies (cell * boards + p) 0) current p)
 
 -- the masks with a board put into the one at a place
 abbrev pub marked : (w : List ℕ) → (at board : ℕ) → List ℕ

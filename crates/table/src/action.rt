@@ -38,11 +38,14 @@ pub fn refusal(
     if cells <= cell {
         return protocol::NO_SUCH_CELL;
     }
-    if !cell::sound(rule, boards, cells, main, copies, masks, cell) {
+    let m = cell::masks_at(masks, cell);
+    if !cell::masks_sound(rule, boards, m) {
         return protocol::NOT_SOUND;
     }
-    let m = cell::masks_at(masks, cell);
     let now = cell::current(boards, main, copies, cell, m.dirty);
+    if !cell::copies_sound(rule, boards, copies, cell, m.live, now) {
+        return protocol::NOT_SOUND;
+    }
     let board = a.board as usize;
     let copy = copies[cell * boards + board];
     rules::guard(rule, m, copy, now, a)

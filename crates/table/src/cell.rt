@@ -2,11 +2,7 @@
 ghost use mathlib.Core.Path.{_≡_};
 ghost use Prim.Native.Nat.{_+_, _*_, _<_, _≤_, _^_};
 ghost use lib.ListN.{length};
-ghost use Rattle.protocol.specs.Names.{ruleOf};
-ghost use Rattle.protocol.specs.Slices.{tableOf};
-ghost use Rattle.protocol.specs.Cell.{cellOf};
-ghost use Rattle.protocol.specs.Soundness.{sound as isSound};
-ghost use Rattle.table.specs.Code.{Ready, MasksAt, currentAt, masksSound, copySound};
+ghost use Rattle.table.specs.Code.{MasksAt, currentAt, masksSound, copySound, copiesSound};
 use crate::mask;
 
 pub struct Masks {
@@ -63,30 +59,24 @@ pub fn copy_sound(rule: u8, live: u16, copy: u32, current: u32, board: usize) ->
     (is_live | (copy == 0)) & ((rule < 2) | (!is_live | (copy == current)))
 }
 
-pub fn sound(
+// What all the copies of a cell show. None is left out where one fails: with one way out the loop runs fastest.
+pub fn copies_sound(
     rule: u8,
     boards: usize,
-    cells: usize,
-    main: &[u32],
     copies: &[u32],
-    masks: &[u16],
     cell: usize,
+    live: u16,
+    current: u32,
 ) -> bool
-    requires { ⌜ (rule ≤ 4) × Ready boards cells cell (tableOf (now main) (now copies) (now masks)) ⌝ }
-    ensures { λ r. ⌜ r ≡ isSound (ruleOf rule) boards (cellOf boards cells (tableOf (now (main .entry)) (now (copies .entry)) (now (masks .entry))) cell) ⌝ }
+    requires { ⌜ (boards ≤ 16) × (cell * boards + boards ≤ length (now copies)) ⌝ }
+    ensures { λ r. ⌜ r ≡ copiesSound rule boards cell live current (now (copies .entry)) boards ⌝ }
 {
-    let m = masks_at(masks, cell);
-    if !masks_sound(rule, boards, m) {
-        return false;
-    }
-    let now = current(boards, main, copies, cell, m.dirty);
+    let mut sound = true;
     let mut board = 0;
     while board < boards {
         let copy = copies[cell * boards + board];
-        if !copy_sound(rule, m.live, copy, now, board) {
-            return false;
-        }
+        sound = copy_sound(rule, live, copy, current, board) & sound;
         board += 1;
     }
-    true
+    sound
 }

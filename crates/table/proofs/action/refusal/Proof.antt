@@ -7,7 +7,8 @@ use borrow.Author.Tests.{not-true, not-false}
 use Rattle.protocol.specs.Slices.{tableOf}
 use Rattle.protocol.proofs.RefusalOrder.{answers-1, answers-2, answers-5, answers-6}
 use Rattle.table.proofs.ReadyLaws.{main-in, row-in, copy-in, copy-small, masks-in}
-use Rattle.table.proofs.ActionLaws.{formed, unformed, Cleared, cleared-ready, cleared-boards, cleared-7, dirty-below, cleared-guard}
+use Rattle.table.proofs.SoundLaws.{masks-below}
+use Rattle.table.proofs.ActionLaws.{formed, unformed, Cleared, cleared-ready, cleared-boards, cleared-masks, cleared-copies, cleared-guard}
 use Rattle.protocol.proofs.NumberLaws.{code-fits}
 use borrow.Author.Needs.{needs}
 use Rattle.table.proofs.action.refusal.Statement.{statement}
@@ -56,43 +57,47 @@ cast-cell c = search needs
 returns-5 : tie.Need-returns-5
 returns-5 c = let f = formed-at (c .before .before .before .before) in sym (answers-6 _ _ _ _ _ .1 (sym (c .before .before .before .before .before .before .before .before .sizes-good .ensures) ∙ not-false _ (c .before .before .before .before .before .before .before .if1 .left), c .before .before .before .before .before .before .if2 .left, f .0, f .1, sym (c .before .before .before .off-board .ensures) ∙ c .before .before .if4 .left, c .if5 .taken))
 
-sound-requires : tie.Need-sound-requires
-sound-requires c κs = (cleared c .ruled, cleared-ready _ _ _ _ _ (cleared c))
+masks-at-requires : tie.Need-masks-at-requires
+masks-at-requires c κs = let y = cleared-ready _ _ _ _ _ (cleared c) in (omega (arith, y .inside, y .few-cells), masks-in _ _ _ _ y)
+
+masks-sound-requires : tie.Need-masks-sound-requires
+masks-sound-requires c κs = cleared-ready _ _ _ _ _ (cleared (c .before)) .few-boards
 
 returns-6 : tie.Need-returns-6
-returns-6 c = cleared-7 _ _ _ _ _ (cleared (c .before .before)) (sym (c .before .sound .ensures) ∙ not-true _ (c .if6 .taken))
-
-masks-at-requires : tie.Need-masks-at-requires
-masks-at-requires c κs = let y = cleared-ready _ _ _ _ _ (cleared (c .before .before)) in (omega (arith, y .inside, y .few-cells), masks-in _ _ _ _ y)
+returns-6 c = cleared-masks _ _ _ _ _ (cleared (c .before .before .before)) _ _ _ (c .before .before .masks-at .ensures) (sym (c .before .masks-sound .ensures) ∙ not-true _ (c .if6 .taken))
 
 current-requires : tie.Need-current-requires
-current-requires c κs = let k = cleared (c .before .before .before) in
-    let y = cleared-ready _ _ _ _ _ k in
-    (y .few-boards, omega (arith, y .inside, y .few-cells), main-in _ _ _ _ y, row-in _ _ _ _ y, dirty-below _ _ _ _ _ k (sym (c .before .before .sound .ensures) ∙ not-false _ (c .before .if6 .left)) _ _ _ (c .masks-at .ensures))
+current-requires c κs = let y = cleared-ready _ _ _ _ _ (cleared (c .before .before .before)) in (y .few-boards, omega (arith, y .inside, y .few-cells), main-in _ _ _ _ y, row-in _ _ _ _ y, masks-below _ _ _ _ _ (sym (c .before .masks-sound .ensures) ∙ not-false _ (c .if6 .left)))
+
+copies-sound-requires : tie.Need-copies-sound-requires
+copies-sound-requires c κs = let y = cleared-ready _ _ _ _ _ (cleared (c .before .before .before .before)) in (y .few-boards, row-in _ _ _ _ y)
+
+returns-7 : tie.Need-returns-7
+returns-7 c = cleared-copies _ _ _ _ _ (cleared (c .before .before .before .before .before .before)) _ _ _ (c .before .before .before .before .before .masks-at .ensures) (sym (c .before .before .before .before .masks-sound .ensures) ∙ not-false _ (c .before .before .before .if6 .left)) _ (c .before .before .current .ensures) (sym (c .before .copies-sound .ensures) ∙ not-true _ (c .if7 .taken))
 
 cast-board : tie.Need-cast-board
 cast-board c = search needs
 
 mul-copy : tie.Need-mul-copy
-mul-copy c = let k = cleared (c .before .before .before .before .before) in omega (arith, copy-small _ _ _ _ (cleared-ready _ _ _ _ _ k) _ (cleared-boards _ _ _ _ _ k .0))
+mul-copy c = let k = cleared (c .before .before .before .before .before .before .before) in omega (arith, copy-small _ _ _ _ (cleared-ready _ _ _ _ _ k) _ (cleared-boards _ _ _ _ _ k .0))
 
 add-copy : tie.Need-add-copy
-add-copy c = let k = cleared (c .before .before .before .before .before) in omega (arith, copy-small _ _ _ _ (cleared-ready _ _ _ _ _ k) _ (cleared-boards _ _ _ _ _ k .0))
+add-copy c = let k = cleared (c .before .before .before .before .before .before .before) in omega (arith, copy-small _ _ _ _ (cleared-ready _ _ _ _ _ k) _ (cleared-boards _ _ _ _ _ k .0))
 
 mul-copy-2 : tie.Need-mul-copy-2
-mul-copy-2 c = let k = cleared (c .before .before .before .before .before) in omega (arith, copy-small _ _ _ _ (cleared-ready _ _ _ _ _ k) _ (cleared-boards _ _ _ _ _ k .0))
+mul-copy-2 c = let k = cleared (c .before .before .before .before .before .before .before) in omega (arith, copy-small _ _ _ _ (cleared-ready _ _ _ _ _ k) _ (cleared-boards _ _ _ _ _ k .0))
 
 shared-slice-read-copy : tie.Need-shared-slice-read-copy
-shared-slice-read-copy c = let k = cleared (c .before .before .before .before .before .before) in copy-in _ _ _ _ (cleared-ready _ _ _ _ _ k) _ (cleared-boards _ _ _ _ _ k .0)
+shared-slice-read-copy c = let k = cleared (c .before .before .before .before .before .before .before .before) in copy-in _ _ _ _ (cleared-ready _ _ _ _ _ k) _ (cleared-boards _ _ _ _ _ k .0)
 
 guard-requires : tie.Need-guard-requires
-guard-requires c κs = let k = cleared (c .before .before .before .before .before .before) in
+guard-requires c κs = let k = cleared (c .before .before .before .before .before .before .before .before) in
     let b = cleared-boards _ _ _ _ _ k in
     let f = cleared-ready _ _ _ _ _ k .few-boards in
     (k .ruled, omega arith, omega arith, k .there, code-fits _ (k .formed))
 
-returns-7 : tie.Need-returns-7
-returns-7 c = cleared-guard _ _ _ _ _ (cleared (c .before .before .before .before .before .before .before)) (sym (c .before .before .before .before .before .before .sound .ensures) ∙ not-false _ (c .before .before .before .before .before .if6 .left)) _ _ _ (c .before .before .before .before .masks-at .ensures) _ _ (c .before .before .before .current .ensures) (c .guard .ensures)
+returns-8 : tie.Need-returns-8
+returns-8 c = cleared-guard _ _ _ _ _ (cleared (c .before .before .before .before .before .before .before .before .before)) _ _ _ (c .before .before .before .before .before .before .before .before .masks-at .ensures) (sym (c .before .before .before .before .before .before .before .masks-sound .ensures) ∙ not-false _ (c .before .before .before .before .before .before .if6 .left)) _ (c .before .before .before .before .before .current .ensures) (sym (c .before .before .before .before .copies-sound .ensures) ∙ not-false _ (c .before .before .before .if7 .left)) _ (c .guard .ensures)
 
 pub refusal-spec : {M : Type 1} → statement M
 refusal-spec =
@@ -107,14 +112,16 @@ refusal-spec =
     returns-4
     cast-cell
     returns-5
-    sound-requires
-    returns-6
     masks-at-requires
+    masks-sound-requires
+    returns-6
     current-requires
+    copies-sound-requires
+    returns-7
     cast-board
     mul-copy
     add-copy
     mul-copy-2
     shared-slice-read-copy
     guard-requires
-    returns-7)
+    returns-8)
