@@ -97,3 +97,9 @@ pub fn values(has: bool, s: &[u32]) {
     }
     end(has, s.len(), sum);
 }
+
+pub fn table(has: bool, main: &[u32], copies: &[u32], marks: &[u16]) {
+    values(has, main);
+    values(has, copies);
+    masks(has, marks);
+}

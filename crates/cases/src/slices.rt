@@ -2,6 +2,7 @@
 use crate::text;
 use crate::text::Read;
 ghost use Prim.Native.Nat.{_≤_};
+ghost use mathlib.Core.Path.{_≡_};
 ghost use lib.ListN.{length};
 
 // A number, or several with dots between them, behind those that are there.
@@ -83,11 +84,17 @@ pub fn masks(line: &[u8], at: usize, has: bool, out: &mut [u16; 2100]) -> Read
     put
 }
 
+fn wide() -> [u32; 100000]
+    ensures { λ r. ⌜ 100000 ≡ length r ⌝ }
+{
+    [0; 100000]
+}
+
 pub fn bytes(line: &[u8], at: usize, has: bool, out: &mut [u8; 100000]) -> Read
     requires { ⌜ 100000 ≤ length (now out) ⌝ }
     ensures { λ r. ⌜ r .0 ≤ length (now (out .exit)) ⌝ }
 {
-    let mut wide = [0u32; 100000];
+    let mut wide = wide();
     let put = contents(line, at, has, 255, &mut wide);
     let mut i = 0;
     while i < put.0 {

@@ -9,11 +9,14 @@ use Rattle.cases.proofs.calls.call.Tie as tie
 find-requires : tie.Need-find-requires
 find-requires c κs = search needs
 
-slice-aggregate-parts : tie.Need-slice-aggregate-parts
-slice-aggregate-parts c = sym (length-take-le _ _ (c .before .find .ensures .1))
+slice-aggregate-name : tie.Need-slice-aggregate-name
+slice-aggregate-name c = sym (length-take-le _ _ (c .before .find .ensures .1))
 
-parts-requires : tie.Need-parts-requires
-parts-requires c κs = search needs
+of-table-requires : tie.Need-of-table-requires
+of-table-requires c κs = search needs
+
+of-file-requires : tie.Need-of-file-requires
+of-file-requires c κs = search needs
 
 returns : tie.Need-returns
 returns c = search needs
@@ -45,12 +48,6 @@ number-requires-8 c κs = search needs
 bar-requires : tie.Need-bar-requires
 bar-requires c κs = search needs
 
-cast-t20 : tie.Need-cast-t20
-cast-t20 c = search needs
-
-cast-t21 : tie.Need-cast-t21
-cast-t21 c = search needs
-
 cast-t22 : tie.Need-cast-t22
 cast-t22 c = search needs
 
@@ -60,8 +57,14 @@ cast-t23 c = search needs
 cast-t24 : tie.Need-cast-t24
 cast-t24 c = search needs
 
-cast-t20-2 : tie.Need-cast-t20-2
-cast-t20-2 c = omega (arith, c .before .before .before .before .before .before .before .before .before .before .before .before .before .before .number .ensures)
+cast-t19 : tie.Need-cast-t19
+cast-t19 c = search needs
+
+cast-t25 : tie.Need-cast-t25
+cast-t25 c = search needs
+
+cast-t22-2 : tie.Need-cast-t22-2
+cast-t22-2 c = omega (arith, c .before .before .before .before .before .before .before .before .before .before .before .before .before .before .number .ensures)
 
 lend-requires : tie.Need-lend-requires
 lend-requires c κs = search needs
@@ -74,8 +77,9 @@ call-spec =
     tie.close
     (tie.spec
     find-requires
-    slice-aggregate-parts
-    parts-requires
+    slice-aggregate-name
+    of-table-requires
+    of-file-requires
     returns
     number-requires
     number-requires-2
@@ -86,11 +90,11 @@ call-spec =
     number-requires-7
     number-requires-8
     bar-requires
-    cast-t20
-    cast-t21
     cast-t22
     cast-t23
     cast-t24
-    cast-t20-2
+    cast-t19
+    cast-t25
+    cast-t22-2
     lend-requires
     returns-2)

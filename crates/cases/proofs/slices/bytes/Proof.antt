@@ -12,6 +12,9 @@ Inv-loop line at has out₀ wide put i₀ out i = (put .0 ≤ 100000) × (100000
 abbrev μ-loop : tie.MeasureT-loop
 μ-loop line at has out₀ wide put i₀ out i = put .0 - i
 
+wide-requires : tie.Need-wide-requires Inv-loop μ-loop
+wide-requires c κs = search needs
+
 slice-aggregate-contents : tie.Need-slice-aggregate-contents Inv-loop μ-loop
 slice-aggregate-contents c = search needs
 
@@ -51,6 +54,7 @@ bytes-spec =
     (tie.spec
     Inv-loop
     μ-loop
+    wide-requires
     slice-aggregate-contents
     contents-requires
     loop-holds

@@ -1,0 +1,2 @@
+-- The laws of arrays. Assumes nothing.
+mod Arrays
