@@ -7,6 +7,7 @@ pub mod WrittenLaws
 pub mod WriteLaws
 pub mod TripLaws
 pub mod RoundTrip
+pub mod RecordTrip
 pub mod RunLaws
 pub mod RanLaws
 pub mod StaleLaws

@@ -81,3 +81,11 @@ headed rule boards cells = mark ++ (two 1 ++ (rule ∷ boards ∷ two cells))
 
 unfoldable pub fileOf : (rule boards cells : ℕ) → (starting records : List ℕ) → List ℕ
 fileOf rule boards cells starting records = headed rule boards cells ++ (packed starting ++ records)
+
+-- "records of nine bytes: code, p, q (8 bits each), cell (16 bits), value (32 bits)"
+unfoldable pub recordOfAction : Action → List ℕ
+recordOfAction a = a .code ∷ a .board ∷ a .to ∷ (two (a .cell) ++ four (a .value))
+
+unfoldable pub recordsOfActions : List Action → List ℕ
+recordsOfActions [] = []
+recordsOfActions (a ∷ l) = recordOfAction a ++ recordsOfActions l
