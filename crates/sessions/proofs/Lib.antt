@@ -15,6 +15,7 @@ pub mod FinishLaws
 pub mod Unique
 pub mod FileRefused
 pub mod FileOrder
+pub mod FileBytes
 pub mod LogLaws
 pub mod RunPromises
 pub mod RunOrder

@@ -65,7 +65,7 @@ Inside n (l ∷ ls) = (l .told .number ≡ 0 → cellOfLine l < n) × Inside n l
 
 accepted-of-cells : (n : ℕ) (ls : List Line) → Inside n ls → sumBelow n (λ k. acceptedIn (naming cellOfLine k ls)) ≡ acceptedIn ls
 unfolding acceptedIn naming
-accepted-of-cells n [] h = none-summed n (λ k. 0) (λ k. refl)
+accepted-of-cells n [] h = none-summed n (λ k. 0) (λ k h. refl)
 accepted-of-cells n (l ∷ ls) h =
     ap (sumBelow n) (fun-ext (λ k. split k (eqb (cellOfLine l) k)))
     ∙ sum-both n (λ k. cond (eqb (cellOfLine l) k) one 0) (λ k. acceptedIn (naming cellOfLine k ls))
@@ -80,7 +80,7 @@ accepted-of-cells n (l ∷ ls) h =
 
     counted : (b : Bool) → eqb (l .told .number) 0 ≡ b → sumBelow n (λ k. cond (eqb (cellOfLine l) k) (cond b 1 0) 0) ≡ cond b 1 0
     counted true e = sum-at n (cellOfLine l) 1 (h .0 (eqb-true _ _ e))
-    counted false e = none-summed n _ (λ k. nought (eqb (cellOfLine l) k))
+    counted false e = none-summed n _ (λ k h. nought (eqb (cellOfLine l) k))
       where
         nought : (b : Bool) → cond {A = ℕ} b 0 0 ≡ 0
         nought true = refl

@@ -5,6 +5,7 @@ use mathlib.Core.Logic.{_⊎_, _↔_}
 use mathlib.Core.List.{List}
 use Prim.Native.Nat.{ℕ, _+_, _-_, _*_, _/_, _≤_}
 use lib.ListN.{length, getD}
+use Rattle.protocol.specs.declared.Action.{Action}
 use Rattle.protocol.specs.Slices.{Slice, Table, width}
 
 -- "Order: under 9 bytes 19, mark 17, version 18, sizes 1, rule 2, body 19, room 20": each is what must hold for the next to be looked at
@@ -34,6 +35,20 @@ boardsByte file = getD file 6 0
 
 abbrev pub cellsBytes : (file : List ℕ) → ℕ
 cellsBytes file = getD file 7 0 + getD file 8 0 * 256
+
+-- "32 bits", the low byte first
+abbrev pub valueBytes : (file : List ℕ) → (at : ℕ) → ℕ
+valueBytes file at = getD file at 0 + getD file (at + 1) 0 * 256 + getD file (at + 2) 0 * 65536 + getD file (at + 3) 0 * 16777216
+
+-- "code, p, q (8 bits each), cell (16 bits), value (32 bits)"
+abbrev pub recordBytes : (file : List ℕ) → (at : ℕ) → Action
+recordBytes file at = record {
+  code = getD file at 0;
+  board = getD file (at + 1) 0;
+  to = getD file (at + 2) 0;
+  cell = getD file (at + 3) 0 + getD file (at + 4) 0 * 256;
+  value = valueBytes file (at + 5);
+}
 
 -- "P boards (1 to 16 ..) and N cells (1 to 512 ..)"
 abbrev pub Limits : (boards cells : ℕ) → Type 0

@@ -1,8 +1,8 @@
 -- The run of a session file: "makes a fresh table from the file .. and performs its records in order", and its two counts. Assumes nothing.
 use mathlib.Core.Path.{_≡_}
-use mathlib.Core.Bool.{Bool, cond, not, _&&_}
+use mathlib.Core.Bool.{Bool, true, cond, not, _&&_}
 use mathlib.Core.List.{List, [], _∷_}
-use Prim.Native.Nat.{ℕ, zero, suc, _+_, _*_}
+use Prim.Native.Nat.{ℕ, zero, suc, _+_, _*_, _<_}
 use lib.Dec.{eqb}
 use lib.ListN.{getD, take}
 use Rattle.protocol.specs.declared.Action.{Action}
@@ -65,6 +65,12 @@ staleIn boards cells t latest =
 
 unfoldable pub staleOf : (file : List ℕ) → ℕ
 staleOf file = staleIn (boardsIn file) (cellsIn file) (endOf file) (λ c. latestWrite c (getD (startingIn file) c 0) (logOf file))
+
+-- no copy is stale at the end: each live copy is the latest accepted write to its cell, or its starting value
+abbrev pub NoneStale : (file : List ℕ) → Type 0
+NoneStale file =
+    (c p : ℕ) → c < cellsIn file → p < boardsIn file → hasBoard (liveMask (cellOf (boardsIn file) (cellsIn file) (endOf file) c)) p ≡ true →
+    copyAt (cellOf (boardsIn file) (cellsIn file) (endOf file) c) p ≡ latestWrite c (getD (startingIn file) c 0) (logOf file)
 
 -- the cell number that a line names
 abbrev pub cellOfLine : Line → ℕ
