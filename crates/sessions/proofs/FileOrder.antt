@@ -84,13 +84,27 @@ module _ (nine mark version sizes rule body room : Asked) where
 
   in-order : InOrder answered (nine .holds) (mark .holds) (version .holds) (sizes .holds) (rule .holds) (body .holds) (room .holds)
   in-order = record {
-    answers-17 = past nine (omega arith) (here mark (other version (omega arith) (other sizes (omega arith) (other rule (omega arith) (other body (omega arith) (other room (omega arith) (omega arith)))))));
-    answers-18 = past nine (omega arith) (past mark (omega arith) (here version (other sizes (omega arith) (other rule (omega arith) (other body (omega arith) (other room (omega arith) (omega arith)))))));
-    answers-1 = past nine (omega arith) (past mark (omega arith) (past version (omega arith) (here sizes (other rule (omega arith) (other body (omega arith) (other room (omega arith) (omega arith)))))));
-    answers-2 = past nine (omega arith) (past mark (omega arith) (past version (omega arith) (past sizes (omega arith) (here rule (other body (omega arith) (other room (omega arith) (omega arith)))))));
-    answers-19 = here-or-past nine (past mark (omega arith) (past version (omega arith) (past sizes (omega arith) (past rule (omega arith) (here body (other room (omega arith) (omega arith)))))));
-    answers-20 = past nine (omega arith) (past mark (omega arith) (past version (omega arith) (past sizes (omega arith) (past rule (omega arith) (past body (omega arith) (here room (omega arith)))))));
-    answers-0 = past nine (omega arith) (past mark (omega arith) (past version (omega arith) (past sizes (omega arith) (past rule (omega arith) (past body (omega arith) (none room (omega arith)))))));
+    answers-17 =
+        past nine (omega arith) (here mark (other version (omega arith) (other sizes (omega arith) (other rule (omega arith)
+        (other body (omega arith) (other room (omega arith) (omega arith)))))));
+    answers-18 =
+        past nine (omega arith) (past mark (omega arith) (here version (other sizes (omega arith) (other rule (omega arith)
+        (other body (omega arith) (other room (omega arith) (omega arith)))))));
+    answers-1 =
+        past nine (omega arith) (past mark (omega arith) (past version (omega arith) (here sizes (other rule (omega arith)
+        (other body (omega arith) (other room (omega arith) (omega arith)))))));
+    answers-2 =
+        past nine (omega arith) (past mark (omega arith) (past version (omega arith) (past sizes (omega arith) (here rule
+        (other body (omega arith) (other room (omega arith) (omega arith)))))));
+    answers-19 =
+        here-or-past nine (past mark (omega arith) (past version (omega arith) (past sizes (omega arith) (past rule (omega arith)
+        (here body (other room (omega arith) (omega arith)))))));
+    answers-20 =
+        past nine (omega arith) (past mark (omega arith) (past version (omega arith) (past sizes (omega arith) (past rule (omega arith)
+        (past body (omega arith) (here room (omega arith)))))));
+    answers-0 =
+        past nine (omega arith) (past mark (omega arith) (past version (omega arith) (past sizes (omega arith) (past rule (omega arith)
+        (past body (omega arith) (none room (omega arith)))))));
   }
 
 -- ---- what is asked
@@ -124,11 +138,17 @@ module _ (boards cells : ℕ) where
   startingSizes lent = record {
     refuses = not (inRange boards cells) || not (eqb lent cells);
     holds = Limits boards cells × (lent ≡ cells);
-    exactly = neither (not (inRange boards cells)) (not (eqb lent cells)) (wanted (inRange boards cells) limits-exactly) (wanted (eqb lent cells) (eqb-true lent cells, eq-eqb lent cells));
+    exactly =
+        neither (not (inRange boards cells)) (not (eqb lent cells)) (wanted (inRange boards cells) limits-exactly)
+        (wanted (eqb lent cells) (eqb-true lent cells, eq-eqb lent cells));
   }
 
   abbrev tableSizes : Table → Asked
-  tableSizes t = record { refuses = not (sizesGood boards cells t); holds = Limits boards cells × Lengths boards cells t; exactly = wanted (sizesGood boards cells t) (lengths-exactly t) }
+  tableSizes t = record {
+    refuses = not (sizesGood boards cells t);
+    holds = Limits boards cells × Lengths boards cells t;
+    exactly = wanted (sizesGood boards cells t) (lengths-exactly t);
+  }
 
 whole-exactly : (n : ℕ) → (recordsBad n ≡ false) ↔ WholeRecords 0 n
 unfolding recordsBad
@@ -161,19 +181,24 @@ module _ (file : List ℕ) where
       let a = eqb (getD file 0 0) 67 in
       let b = eqb (getD file 1 0) 67 in
       let c = eqb (getD file 2 0) 83 in (
-        (λ e. (eqb-true _ _ (and-left a (b && c) e), eqb-true _ _ (and-left b c (and-right a (b && c) e)), eqb-true _ _ (and-right b c (and-right a (b && c) e)))),
+        (λ e. let f = and-right a (b && c) e in
+            (eqb-true _ _ (and-left a (b && c) e), eqb-true _ _ (and-left b c f), eqb-true _ _ (and-right b c f))),
         λ m. and-both a (b && c) (eq-eqb _ _ (m .0)) (and-both b c (eq-eqb _ _ (m .1)) (eq-eqb _ _ (m .2))),
       )
 
   version-exactly : (eqb (versionIn file) 1 ≡ true) ↔ VersionBytes file
   unfolding le16
-  version-exactly = ((λ e. let v = eqb-true (versionIn file) 1 e in (omega (arith, v), omega (arith, v))), λ v. eq-eqb (versionIn file) 1 (omega (arith, v .0, v .1)))
+  version-exactly = (
+    (λ e. let v = eqb-true (versionIn file) 1 e in (omega (arith, v), omega (arith, v))),
+    λ v. eq-eqb (versionIn file) 1 (omega (arith, v .0, v .1)),
+  )
 
   body-exactly : (bodyBad file ≡ false) ↔ WholeRecords (recordsAt (cellsIn file)) (length file)
   unfolding bodyBad
   body-exactly =
       let from = recordsAt (cellsIn file) in
-      let k = neither (ltb (length file) from) (recordsBad (length file - from)) (atMost from (length file) .exactly) (whole-exactly (length file - from)) in (
+      let n = length file - from in
+      let k = neither (ltb (length file) from) (recordsBad n) (atMost from (length file) .exactly) (whole-exactly n) in (
         (λ e. let f = k .0 e in (f .1 .0, f .1 .1, omega (arith, f .0, f .1 .2))),
         λ w. k .1 (omega (arith, w .2), (w .0, w .1, omega (arith, w .2))),
       )
@@ -189,21 +214,33 @@ module _ (file : List ℕ) where
 
 -- ---- the three functions
 
-module _ (file old records : List ℕ) (number rule boards cells : ℕ) (starting : List ℕ) (s : Reads file old records number rule boards cells starting) where
-  pub read-answers : InOrder number (9 ≤ length file) (MarkBytes file) (VersionBytes file) (Limits (boardsByte file) (cellsBytes file) × (length old ≡ cellsBytes file))
+module _ (file old records : List ℕ) (number rule boards cells : ℕ) (starting : List ℕ)
+    (s : Reads file old records number rule boards cells starting) where
+  pub read-answers : InOrder number (9 ≤ length file) (MarkBytes file) (VersionBytes file)
+      (Limits (boardsByte file) (cellsBytes file) × (length old ≡ cellsBytes file))
       (ruleByte file ≤ 4) (WholeRecords (9 + 4 * cellsBytes file) (length file)) (Unit {0})
   unfolding readRefusals headRefusals bodyRefusals le16
-  read-answers = rw (s .number-is) (in-order (atMost 9 (length file)) (mark file) (version file) (startingSizes (boardsIn file) (cellsIn file) (length old)) (atMost (ruleIn file) 4) (body file) nothing)
+  read-answers =
+      rw (s .number-is) (in-order (atMost 9 (length file)) (mark file) (version file) (startingSizes (boardsIn file) (cellsIn file) (length old))
+      (atMost (ruleIn file) 4) (body file) nothing)
 
-module _ (rule boards cells : ℕ) (starting records old : List ℕ) (r : Answer) (out : List ℕ) (s : Writes rule boards cells starting records old r out) where
+module _ (rule boards cells : ℕ) (starting records old : List ℕ) (r : Answer) (out : List ℕ)
+    (s : Writes rule boards cells starting records old r out) where
   -- "the same order without 17 and 18"
   pub write-answers : InOrder (r .number) (Unit {0}) (Unit {0}) (Unit {0}) (Limits boards cells × (length starting ≡ cells))
       (rule ≤ 4) (WholeRecords 0 (length records)) (9 + 4 * cells + length records ≤ length old)
   unfolding writeRefusals bodyRefusals
-  write-answers = rw (s .number-is) (in-order nothing nothing nothing (startingSizes boards cells (length starting)) (atMost rule 4) (wholeRecords (length records)) (atMost (recordsAt cells + length records) (length old)))
+  write-answers =
+      rw (s .number-is) (in-order nothing nothing nothing (startingSizes boards cells (length starting)) (atMost rule 4)
+      (wholeRecords (length records)) (atMost (recordsAt cells + length records) (length old)))
 
-module _ (file : List ℕ) (t : Table) (numbers values : List ℕ) (r : Report) (t′ : Table) (numbers′ values′ : List ℕ) (s : Runs file t numbers values r t′ numbers′ values′) where
-  pub run-answers : InOrder (r .number) (9 ≤ length file) (MarkBytes file) (VersionBytes file) (Limits (boardsByte file) (cellsBytes file) × Lengths (boardsByte file) (cellsBytes file) t)
-      (ruleByte file ≤ 4) (WholeRecords (9 + 4 * cellsBytes file) (length file)) (Room (9 + 4 * cellsBytes file) (length file) (length numbers) (length values))
+module _ (file : List ℕ) (t : Table) (numbers values : List ℕ) (r : Report) (t′ : Table) (numbers′ values′ : List ℕ)
+    (s : Runs file t numbers values r t′ numbers′ values′) where
+  pub run-answers : InOrder (r .number) (9 ≤ length file) (MarkBytes file) (VersionBytes file)
+      (Limits (boardsByte file) (cellsBytes file) × Lengths (boardsByte file) (cellsBytes file) t)
+      (ruleByte file ≤ 4) (WholeRecords (9 + 4 * cellsBytes file) (length file))
+      (Room (9 + 4 * cellsBytes file) (length file) (length numbers) (length values))
   unfolding runRefusals headRefusals bodyRefusals le16
-  run-answers = rw (s .number-is) (in-order (atMost 9 (length file)) (mark file) (version file) (tableSizes (boardsIn file) (cellsIn file) t) (atMost (ruleIn file) 4) (body file) (answerRoom (countIn file) (length numbers) (length values)))
+  run-answers =
+      rw (s .number-is) (in-order (atMost 9 (length file)) (mark file) (version file) (tableSizes (boardsIn file) (cellsIn file) t)
+      (atMost (ruleIn file) 4) (body file) (answerRoom (countIn file) (length numbers) (length values)))

@@ -3,7 +3,7 @@ use mathlib.Core.Path.{_≡_, refl, sym, ap, _∙_, fun-ext}
 use mathlib.Core.Logic.{_≢_}
 use mathlib.Core.Bool.{true}
 use mathlib.Core.List.{List}
-use Prim.Native.Nat.{ℕ, _+_, _-_, _*_, _/_}
+use Prim.Native.Nat.{ℕ, _-_, _/_}
 use native.Mathlib.Omega.{arith}
 use lib.ListN.{length, length-drop}
 use borrow.Author.Tests.{eq-eqb, ne-eqb}
@@ -26,6 +26,22 @@ use Rattle.sessions.specs.Code.{Prepared, Counted, CountsStale, Ran, Fin
 use Rattle.sessions.proofs.AcceptedLaws.{Runnable, few-records}
 use Rattle.sessions.proofs.BytesLaws.{Says, length-starting}
 use Rattle.sessions.proofs.RunLaws.{length-actions}
+
+-- a run keeps the lengths of the slices that the count of stale copies reads
+module _ (file : List ℕ) (t : Table) (numbers values : ℕ) (ok : Runnable file t numbers values) where
+  pub countable : (head : Head) → Says file head → (copies′ masks′ latest : List ℕ) →
+      length copies′ ≡ length (t copies) → length masks′ ≡ length (t masks) → length latest ≡ cellsIn file →
+      Counted (head .boards) (head .cells) copies′ masks′ latest
+  unfolding width
+  countable head says copies′ masks′ latest c m l =
+      let lengths = sizes-exactly (boardsIn file) (cellsIn file) t .0 (ok .sized) .1 in
+      record {
+        few-boards = rw (says .says-boards) (ok .readable-too .sizes .few-boards);
+        few-cells = rw (says .says-cells) (ok .readable-too .sizes .few-cells);
+        copied = rw (says .says-boards, says .says-cells) (c ∙ lengths copies);
+        masked = rw (says .says-cells) (m ∙ lengths masks);
+        known = rw (says .says-cells, l) (omega arith);
+      }
 
 module _ (file : List ℕ) (t : Table) (numbers values : List ℕ) (ok : Runnable file t (length numbers) (length values)) where
   few-in : length (recordsIn file) / 9 ≡ countIn file
@@ -71,18 +87,6 @@ module _ (file : List ℕ) (t : Table) (numbers values : List ℕ) (ok : Runnabl
 
       counted : length (actionsOf file) ≡ countIn file
       counted = length-actions (recordsIn file) 0 (length (recordsIn file) / 9) ∙ few-in
-
-      pub countable : Counted (head .boards) (head .cells) (t₂ copies) (t₂ masks) latest₂
-      unfolding width
-      countable =
-          let lengths = sizes-exactly (boardsIn file) (cellsIn file) (endOf file) .0 end-good .1 in
-          record {
-            few-boards = rw (says .says-boards) (ok .readable-too .sizes .few-boards);
-            few-cells = rw (says .says-cells) (ok .readable-too .sizes .few-cells);
-            copied = rw (says .says-boards, says .says-cells, ends copies) (lengths copies);
-            masked = rw (says .says-cells, ends masks) (lengths masks);
-            known = rw (ran .same-length, says .says-cells, is-latest, length-starting file) (omega arith);
-          }
 
       pub finished : (stale : ℕ) → CountsStale (head .boards) (head .cells) (t₂ copies) (t₂ masks) latest₂ stale →
           Finished file numbers values (record { number = 0; accepted = accepted; stale = stale }) t₂ numbers₂ values₂

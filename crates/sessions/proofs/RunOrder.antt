@@ -33,7 +33,8 @@ latest-of-cell cell v (l ∷ ls) = go (eqb (cellOfLine l) cell) refl (latest-of-
     unwritten true = refl
     unwritten false = refl
 
-    go : (b : Bool) → eqb (cellOfLine l) cell ≡ b → latestWrite cell (writtenAfter cell v l) ls ≡ latestWrite cell (writtenAfter cell v l) (naming cellOfLine cell ls) →
+    go : (b : Bool) → eqb (cellOfLine l) cell ≡ b →
+        latestWrite cell (writtenAfter cell v l) ls ≡ latestWrite cell (writtenAfter cell v l) (naming cellOfLine cell ls) →
         latestWrite cell v ls ≡ latestWrite cell v (naming cellOfLine cell ls) →
         latestWrite cell (writtenAfter cell v l) ls ≡ latestWrite cell v (cond b (l ∷ naming cellOfLine cell ls) (naming cellOfLine cell ls))
     go true e i j = i
@@ -74,7 +75,8 @@ accepted-of-cells n (l ∷ ls) h =
     one : ℕ
     one = cond (eqb (l .told .number) 0) 1 0
 
-    split : (k : ℕ) (b : Bool) → acceptedIn (cond b (l ∷ naming cellOfLine k ls) (naming cellOfLine k ls)) ≡ cond b one 0 + acceptedIn (naming cellOfLine k ls)
+    split : (k : ℕ) (b : Bool) →
+        acceptedIn (cond b (l ∷ naming cellOfLine k ls) (naming cellOfLine k ls)) ≡ cond b one 0 + acceptedIn (naming cellOfLine k ls)
     split k true = refl
     split k false = omega arith
 
@@ -89,7 +91,8 @@ accepted-of-cells n (l ∷ ls) h =
 log-inside : (rule boards cells : ℕ) (t : Table) (l : List Action) → Inside cells (log rule boards cells t l)
 unfolding logBy answerBy
 log-inside rule boards cells t [] = tt
-log-inside rule boards cells t (a ∷ l) = ((λ e. accepted rule boards cells (seen boards cells t (a .cell)) a e .inside), log-inside rule boards cells (tableAfter rule boards cells t a) l)
+log-inside rule boards cells t (a ∷ l) =
+    ((λ e. accepted rule boards cells (seen boards cells t (a .cell)) a e .inside), log-inside rule boards cells (tableAfter rule boards cells t a) l)
 
 inside : (file : List ℕ) → Inside (cellsIn file) (logOf file)
 unfolding logOf
@@ -102,21 +105,28 @@ module _ (file other : List ℕ) (alike : Alike file other) where
   start = freshTable (boardsIn other) (startingIn other)
 
   -- the two run alike under one list of actions
-  log-alike : (l : List Action) → log (ruleIn file) (boardsIn file) (cellsIn file) (freshTable (boardsIn file) (startingIn file)) l ≡ log (ruleIn other) (boardsIn other) (cellsIn other) start l
+  log-alike : (l : List Action) →
+      log (ruleIn file) (boardsIn file) (cellsIn file) (freshTable (boardsIn file) (startingIn file)) l
+      ≡ log (ruleIn other) (boardsIn other) (cellsIn other) start l
   log-alike l = rw (alike .same-starting, alike .same-rule, alike .same-boards, alike .same-cells)
 
   end-alike : (l : List Action) →
-      tableAfterAll (ruleIn file) (boardsIn file) (cellsIn file) (freshTable (boardsIn file) (startingIn file)) l ≡ tableAfterAll (ruleIn other) (boardsIn other) (cellsIn other) start l
+      tableAfterAll (ruleIn file) (boardsIn file) (cellsIn file) (freshTable (boardsIn file) (startingIn file)) l
+      ≡ tableAfterAll (ruleIn other) (boardsIn other) (cellsIn other) start l
   end-alike l = rw (alike .same-starting, alike .same-rule, alike .same-boards, alike .same-cells)
 
   -- each record is answered alike: for each cell number, the lines of the two logs that name it are the same
   pub same-log : (cell : ℕ) → naming cellOfLine cell (logOf file) ≡ naming cellOfLine cell (logOf other)
   unfolding logOf
-  same-log cell = rw (log-alike (actionsOf file)) (same-answers (ruleIn other) (boardsIn other) (cellsIn other) start (actionsOf file) (actionsOf other) (alike .same-order) cell)
+  same-log cell =
+      rw (log-alike (actionsOf file))
+      (same-answers (ruleIn other) (boardsIn other) (cellsIn other) start (actionsOf file) (actionsOf other) (alike .same-order) cell)
 
   pub same-table : endOf file ≡ endOf other
   unfolding endOf
-  same-table = end-alike (actionsOf file) ∙ same-end (ruleIn other) (boardsIn other) (cellsIn other) start (actionsOf file) (actionsOf other) (alike .same-order)
+  same-table =
+      end-alike (actionsOf file)
+      ∙ same-end (ruleIn other) (boardsIn other) (cellsIn other) start (actionsOf file) (actionsOf other) (alike .same-order)
 
   pub same-accepted : acceptedIn (logOf file) ≡ acceptedIn (logOf other)
   same-accepted =
@@ -134,13 +144,17 @@ module _ (file other : List ℕ) (alike : Alike file other) where
 -- ---- of two runs that are not refused
 
 told-log : (rule boards cells : ℕ) (t : Table) (l : List Action) (x y : List ℕ) →
-    toldIn (map (λ (line : Line). line .told .number) (log rule boards cells t l) ++ x) (map (λ (line : Line). line .told .value) (log rule boards cells t l) ++ y) l ≡ log rule boards cells t l
+    toldIn (map (λ (line : Line). line .told .number) (log rule boards cells t l) ++ x)
+    (map (λ (line : Line). line .told .value) (log rule boards cells t l) ++ y) l
+    ≡ log rule boards cells t l
 unfolding toldIn logBy
 told-log rule boards cells t [] x y = refl
-told-log rule boards cells t (a ∷ l) x y = ap (λ (ls : List Line). lineOf rule boards cells t a ∷ ls) (told-log rule boards cells (tableAfter rule boards cells t a) l x y)
+told-log rule boards cells t (a ∷ l) x y =
+    ap (λ (ls : List Line). lineOf rule boards cells t a ∷ ls) (told-log rule boards cells (tableAfter rule boards cells t a) l x y)
 
 -- the answer slices of a run tell its log
-told-all : (file : List ℕ) (t : Table) (numbers values : List ℕ) (r : Report) (t′ : Table) (numbers′ values′ : List ℕ) → Runs file t numbers values r t′ numbers′ values′ → r .number ≡ 0 →
+told-all : (file : List ℕ) (t : Table) (numbers values : List ℕ) (r : Report) (t′ : Table) (numbers′ values′ : List ℕ) →
+    Runs file t numbers values r t′ numbers′ values′ → r .number ≡ 0 →
     toldIn numbers′ values′ (actionsOf file) ≡ logOf file
 unfolding logOf
 told-all file t numbers values r t′ numbers′ values′ s ok =
@@ -149,13 +163,17 @@ told-all file t numbers values r t′ numbers′ values′ s ok =
     let v = rw z at (s .values-are) in
     rw (n, v) (told-log (ruleIn file) (boardsIn file) (cellsIn file) (freshTable (boardsIn file) (startingIn file)) (actionsOf file) _ _)
 
-module _ (file : List ℕ) (t : Table) (numbers values : List ℕ) (r : Report) (t₁ : Table) (numbers₁ values₁ : List ℕ) (s : Runs file t numbers values r t₁ numbers₁ values₁) (ok : r .number ≡ 0)
-    (other : List ℕ) (t′ : Table) (numbers′ values′ : List ℕ) (r′ : Report) (t₂ : Table) (numbers₂ values₂ : List ℕ) (s′ : Runs other t′ numbers′ values′ r′ t₂ numbers₂ values₂) (ok′ : r′ .number ≡ 0)
+module _ (file : List ℕ) (t : Table) (numbers values : List ℕ) (r : Report) (t₁ : Table) (numbers₁ values₁ : List ℕ)
+    (s : Runs file t numbers values r t₁ numbers₁ values₁) (ok : r .number ≡ 0)
+    (other : List ℕ) (t′ : Table) (numbers′ values′ : List ℕ) (r′ : Report) (t₂ : Table) (numbers₂ values₂ : List ℕ)
+    (s′ : Runs other t′ numbers′ values′ r′ t₂ numbers₂ values₂) (ok′ : r′ .number ≡ 0)
     (alike : Alike file other) where
   -- for each cell number, the two callers are told the same of the records that name it
-  pub runs-answer-alike : (cell : ℕ) → naming cellOfLine cell (toldIn numbers₁ values₁ (actionsOf file)) ≡ naming cellOfLine cell (toldIn numbers₂ values₂ (actionsOf other))
+  pub runs-answer-alike : (cell : ℕ) →
+      naming cellOfLine cell (toldIn numbers₁ values₁ (actionsOf file)) ≡ naming cellOfLine cell (toldIn numbers₂ values₂ (actionsOf other))
   runs-answer-alike cell =
-      rw (told-all file t numbers values r t₁ numbers₁ values₁ s ok, told-all other t′ numbers′ values′ r′ t₂ numbers₂ values₂ s′ ok′) (same-log file other alike cell)
+      rw (told-all file t numbers values r t₁ numbers₁ values₁ s ok, told-all other t′ numbers′ values′ r′ t₂ numbers₂ values₂ s′ ok′)
+      (same-log file other alike cell)
 
   pub runs-end-alike : (k : Slice) → t₁ k ≡ t₂ k
   runs-end-alike k =
@@ -166,5 +184,7 @@ module _ (file : List ℕ) (t : Table) (numbers values : List ℕ) (r : Report) 
   pub runs-count-alike : (r .accepted ≡ r′ .accepted) × (r .stale ≡ r′ .stale)
   runs-count-alike =
       let z = eq-eqb (r .number) 0 ok in
-      let z′ = eq-eqb (r′ .number) 0 ok′ in
-      (rw z at (s .accepted-is) ∙ same-accepted file other alike ∙ sym (rw z′ at (s′ .accepted-is)), rw z at (s .stale-is) ∙ same-stale file other alike ∙ sym (rw z′ at (s′ .stale-is)))
+      let z′ = eq-eqb (r′ .number) 0 ok′ in (
+        rw z at (s .accepted-is) ∙ same-accepted file other alike ∙ sym (rw z′ at (s′ .accepted-is)),
+        rw z at (s .stale-is) ∙ same-stale file other alike ∙ sym (rw z′ at (s′ .stale-is)),
+      )

@@ -57,10 +57,6 @@ put-four a b c d at old h =
     let e3 : at + 3 ≡ suc (suc (suc at)) = omega arith in
     rw (e1, e2, e3) (stores (a ∷ b ∷ c ∷ d ∷ []) at old h)
 
-pub put-nine : (rule boards cells : ℕ) (old : List ℕ) → 9 ≤ length old → sets old 0 (headed rule boards cells) ≡ written (headed rule boards cells) 0 old
-unfolding headed
-put-nine rule boards cells old h = stores (headed rule boards cells) 0 old h
-
 pub length-packed : (xs : List ℕ) → length (packed xs) ≡ 4 * length xs
 unfolding packed
 length-packed [] = refl

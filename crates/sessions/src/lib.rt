@@ -124,5 +124,15 @@ pub fn run(
             stale: 0,
         };
     }
-    runner::run_accepted(file, main, copies, masks, numbers, values)
+    let head = head_of(file);
+    let mut latest = [0u32; 512];
+    runner::run_accepted(
+        file,
+        main,
+        copies,
+        masks,
+        numbers,
+        values,
+        &mut latest[..head.cells],
+    )
 }

@@ -39,8 +39,8 @@ pub fn refusal(
     protocol::ACCEPTED
 }
 
-// The run of a file that is not refused; `latest` has a place for each cell.
-fn run_with_latest(
+// The run of a file that is not refused; `latest` has a place for each cell, for the latest accepted write to it.
+pub fn run_accepted(
     file: &[u8],
     main: &mut [u32],
     copies: &mut [u32],
@@ -73,29 +73,4 @@ fn run_with_latest(
         accepted,
         stale: stale::count(head.boards, head.cells, copies, masks, latest),
     }
-}
-
-// The same, with the one local buffer: the latest accepted write to each cell.
-pub fn run_accepted(
-    file: &[u8],
-    main: &mut [u32],
-    copies: &mut [u32],
-    masks: &mut [u16],
-    numbers: &mut [u8],
-    values: &mut [u32],
-) -> Report
-    requires { ⌜ firstNumber (runRefusals (now file) (tableOf (now main) (now copies) (now masks)) (length (now numbers)) (length (now values))) ≡ 0 ⌝ }
-    ensures { λ r. ⌜ Finished (now (file .entry)) (now (numbers .entry)) (now (values .entry)) r (tableOf (now (main .exit)) (now (copies .exit)) (now (masks .exit))) (now (numbers .exit)) (now (values .exit)) ⌝ }
-{
-    let head = crate::head_of(file);
-    let mut latest = [0u32; 512];
-    run_with_latest(
-        file,
-        main,
-        copies,
-        masks,
-        numbers,
-        values,
-        &mut latest[..head.cells],
-    )
 }

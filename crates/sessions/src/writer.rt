@@ -36,15 +36,18 @@ pub fn put_header(out: &mut [u8], rule: u8, boards: usize, cells: usize)
     requires { ⌜ (9 ≤ length (now out)) × (boards ≤ 16) × (cells ≤ 512) ⌝ }
     ensures { λ _. ⌜ now (out .exit) ≡ written (headed rule boards cells) 0 (now (out .entry)) ⌝ }
 {
-    out[0] = bytes::MARK[0];
-    out[1] = bytes::MARK[1];
-    out[2] = bytes::MARK[2];
-    out[3] = 1;
-    out[4] = 0;
-    out[5] = rule;
-    out[6] = boards as u8;
-    out[7] = (cells % 256) as u8;
-    out[8] = (cells / 256) as u8;
+    let header = [
+        bytes::MARK[0],
+        bytes::MARK[1],
+        bytes::MARK[2],
+        1,
+        0,
+        rule,
+        boards as u8,
+        (cells % 256) as u8,
+        (cells / 256) as u8,
+    ];
+    put_bytes(out, 0, &header);
 }
 
 // The four bytes of a value, the lowest first, from a place on.
