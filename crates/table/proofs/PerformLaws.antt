@@ -13,7 +13,7 @@ use Rattle.protocol.specs.Slices.{main, copies, masks, sliceNumber, Table, widt
 use Rattle.protocol.specs.Cell.{Cell, mainValue, copyAt, liveMask, dirtyMask, lockMask, cellOf}
 use Rattle.protocol.specs.Effects.{effect, valueOf, storeBy, storesBy}
 use Rattle.protocol.specs.declared.Action.{Action}
-use Rattle.table.specs.Code.{Room, actionOf, Leaves, Values, marked, received}
+use Rattle.table.specs.Code.{Room, actionOf, Leaves, Values, received}
 use Rattle.table.proofs.ReadyLaws.{main-is, copy-is, live-is, dirty-is, lock-is}
 
 module _ (boards cells cell board to value : ℕ) (t : Table) (y : Room boards cells cell board to t) where
@@ -107,22 +107,22 @@ module _ (boards cells cell board to value : ℕ) (t : Table) (y : Room boards c
   unfolding procOf effect storesBy storeBy sliceNumber cellByCell width
   mtoc-masks w′ e r = rw (e, a-live, at-0)
 
-  pub ctom-masks : (w′ : List ℕ) → w′ ≡ set (t masks) (cell * 3 + 1) (withoutBoard (getD (t masks) (cell * 3 + 1) 0) board) → Leaves boards cells t (does 4) masks w′
+  pub ctom-masks : (v : ℕ) → v ≡ withoutBoard (getD (t masks) (cell * 3 + 1) 0) board → Leaves boards cells t (does 4) masks (set (t masks) (cell * 3 + 1) v)
   unfolding procOf effect storesBy storeBy sliceNumber cellByCell width
-  ctom-masks w′ e r = rw (e, a-dirty)
+  ctom-masks v e r = rw (e, a-dirty)
 
   pub ctoc-masks : (w′ : List ℕ) → w′ ≡ received (t masks) (cell * 3) to false → Leaves boards cells t (does 5) masks w′
   unfolding procOf effect storesBy storeBy sliceNumber cellByCell width
   ctoc-masks w′ e r = rw (e, a-live, at-0)
 
-  pub drop-masks : (w′ : List ℕ) → w′ ≡ set (t masks) (cell * 3) (withoutBoard (getD (t masks) (cell * 3) 0) board) → Leaves boards cells t (does 6) masks w′
+  pub drop-masks : (v : ℕ) → v ≡ withoutBoard (getD (t masks) (cell * 3) 0) board → Leaves boards cells t (does 6) masks (set (t masks) (cell * 3) v)
   unfolding procOf effect storesBy storeBy sliceNumber cellByCell width
-  drop-masks w′ e r = rw (e, a-live, at-0)
+  drop-masks v e r = rw (e, a-live, at-0)
 
-  pub acquire-masks : (w′ : List ℕ) → w′ ≡ marked (t masks) (cell * 3 + 2) board → Leaves boards cells t (does 7) masks w′
+  pub acquire-masks : (v : ℕ) → v ≡ withBoard (getD (t masks) (cell * 3 + 2) 0) board → Leaves boards cells t (does 7) masks (set (t masks) (cell * 3 + 2) v)
   unfolding procOf effect storesBy storeBy sliceNumber cellByCell width
-  acquire-masks w′ e r = rw (e, a-lock)
+  acquire-masks v e r = rw (e, a-lock)
 
-  pub release-masks : (w′ : List ℕ) → w′ ≡ set (t masks) (cell * 3 + 2) (withoutBoard (getD (t masks) (cell * 3 + 2) 0) board) → Leaves boards cells t (does 8) masks w′
+  pub release-masks : (v : ℕ) → v ≡ withoutBoard (getD (t masks) (cell * 3 + 2) 0) board → Leaves boards cells t (does 8) masks (set (t masks) (cell * 3 + 2) v)
   unfolding procOf effect storesBy storeBy sliceNumber cellByCell width
-  release-masks w′ e r = rw (e, a-lock)
+  release-masks v e r = rw (e, a-lock)

@@ -123,14 +123,22 @@ pub fn store_masks(masks: &mut [u16], code: u8, board: usize, to: usize, cell: u
         // MtoC
         3 => mask::receive(masks, live, board, false),
         // CtoM
-        4 => mask::unmark(masks, dirty, board),
+        4 => {
+            masks[dirty] = mask::without_board(masks[dirty], board);
+        }
         // CtoC
         5 => mask::receive(masks, live, to, false),
         // Drop
-        6 => mask::unmark(masks, live, board),
+        6 => {
+            masks[live] = mask::without_board(masks[live], board);
+        }
         // Acquire
-        7 => mask::mark(masks, lock, board),
+        7 => {
+            masks[lock] = mask::with_board(masks[lock], board);
+        }
         // Release: 8, for a code above it is refused
-        _ => mask::unmark(masks, lock, board),
+        _ => {
+            masks[lock] = mask::without_board(masks[lock], board);
+        }
     }
 }

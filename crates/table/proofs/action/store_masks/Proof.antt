@@ -22,20 +22,68 @@ receive-requires c κs = search needs
 receive-requires-2 : tie.Need-receive-requires-2
 receive-requires-2 c κs = search needs
 
-unmark-requires : tie.Need-unmark-requires
-unmark-requires c κs = search needs
+mul-without-board : tie.Need-mul-without-board
+mul-without-board c = search needs
+
+slice-read-without-board : tie.Need-slice-read-without-board
+slice-read-without-board c = search needs
+
+without-board-requires : tie.Need-without-board-requires
+without-board-requires c κs = search needs
+
+mul-masks : tie.Need-mul-masks
+mul-masks c = search needs
+
+slice-write-masks : tie.Need-slice-write-masks
+slice-write-masks c = search needs
 
 receive-requires-3 : tie.Need-receive-requires-3
 receive-requires-3 c κs = search needs
 
-unmark-requires-2 : tie.Need-unmark-requires-2
-unmark-requires-2 c κs = search needs
+mul-without-board-2 : tie.Need-mul-without-board-2
+mul-without-board-2 c = search needs
 
-mark-requires : tie.Need-mark-requires
-mark-requires c κs = search needs
+slice-read-without-board-2 : tie.Need-slice-read-without-board-2
+slice-read-without-board-2 c = search needs
 
-unmark-requires-3 : tie.Need-unmark-requires-3
-unmark-requires-3 c κs = search needs
+without-board-requires-2 : tie.Need-without-board-requires-2
+without-board-requires-2 c κs = search needs
+
+mul-masks-2 : tie.Need-mul-masks-2
+mul-masks-2 c = search needs
+
+slice-write-masks-2 : tie.Need-slice-write-masks-2
+slice-write-masks-2 c = search needs
+
+mul-with-board : tie.Need-mul-with-board
+mul-with-board c = search needs
+
+slice-read-with-board : tie.Need-slice-read-with-board
+slice-read-with-board c = search needs
+
+with-board-requires : tie.Need-with-board-requires
+with-board-requires c κs = search needs
+
+mul-masks-3 : tie.Need-mul-masks-3
+mul-masks-3 c = search needs
+
+slice-write-masks-3 : tie.Need-slice-write-masks-3
+slice-write-masks-3 c = search needs
+
+mul-without-board-3 : tie.Need-mul-without-board-3
+mul-without-board-3 c = search needs
+
+slice-read-without-board-3 : tie.Need-slice-read-without-board-3
+slice-read-without-board-3 c = search needs
+
+without-board-requires-3 : tie.Need-without-board-requires-3
+without-board-requires-3 c κs = search needs
+
+mul-masks-4 : tie.Need-mul-masks-4
+mul-masks-4 c = search needs
+
+slice-write-masks-4 : tie.Need-slice-write-masks-4
+slice-write-masks-4 c = search needs
 
 returns : tie.Need-returns
 returns c boards cells value m k y rule = rw (c .match .keys1) (read-masks _ _ _ _ _ _ _ y rule)
@@ -59,7 +107,7 @@ same-length-3 : tie.Need-same-length-3
 same-length-3 c = search needs
 
 returns-5 : tie.Need-returns-5
-returns-5 c boards cells value m k y rule = rw (c .before .before .before .before .match .keys5) (ctom-masks _ _ _ _ _ _ _ y _ (c .before .before .unmark .ensures) rule)
+returns-5 c boards cells value m k y rule = rw (c .before .before .match .keys5) (ctom-masks _ _ _ _ _ _ _ y _ (c .without-board .ensures) rule)
 
 same-length-4 : tie.Need-same-length-4
 same-length-4 c = search needs
@@ -71,13 +119,13 @@ same-length-5 : tie.Need-same-length-5
 same-length-5 c = search needs
 
 returns-7 : tie.Need-returns-7
-returns-7 c boards cells value m k y rule = rw (c .before .before .before .before .match .keys7) (drop-masks _ _ _ _ _ _ _ y _ (c .before .before .unmark2 .ensures) rule)
+returns-7 c boards cells value m k y rule = rw (c .before .before .match .keys7) (drop-masks _ _ _ _ _ _ _ y _ (c .without-board2 .ensures) rule)
 
 same-length-6 : tie.Need-same-length-6
 same-length-6 c = search needs
 
 returns-8 : tie.Need-returns-8
-returns-8 c boards cells value m k y rule = rw (c .before .before .before .before .match .keys8) (acquire-masks _ _ _ _ _ _ _ y _ (c .before .before .mark .ensures) rule)
+returns-8 c boards cells value m k y rule = rw (c .before .before .match .keys8) (acquire-masks _ _ _ _ _ _ _ y _ (c .with-board .ensures) rule)
 
 same-length-7 : tie.Need-same-length-7
 same-length-7 c = search needs
@@ -87,7 +135,7 @@ release : (c : tie.At-match-rest) → c .before .before .args .code ≡ 8
 release c = omega (arith, past 8 _ (c .match .rest), c .before .before .pre .3)
 
 returns-9 : tie.Need-returns-9
-returns-9 c boards cells value m k y rule = rw (release (c .before .before .before .before)) (release-masks _ _ _ _ _ _ _ y _ (c .before .before .unmark3 .ensures) rule)
+returns-9 c boards cells value m k y rule = rw (release (c .before .before)) (release-masks _ _ _ _ _ _ _ y _ (c .without-board3 .ensures) rule)
 
 pub store-masks-spec : {M : Type 1} → statement M
 store-masks-spec =
@@ -98,11 +146,27 @@ store-masks-spec =
     add-lock
     receive-requires
     receive-requires-2
-    unmark-requires
+    mul-without-board
+    slice-read-without-board
+    without-board-requires
+    mul-masks
+    slice-write-masks
     receive-requires-3
-    unmark-requires-2
-    mark-requires
-    unmark-requires-3
+    mul-without-board-2
+    slice-read-without-board-2
+    without-board-requires-2
+    mul-masks-2
+    slice-write-masks-2
+    mul-with-board
+    slice-read-with-board
+    with-board-requires
+    mul-masks-3
+    slice-write-masks-3
+    mul-without-board-3
+    slice-read-without-board-3
+    without-board-requires-3
+    mul-masks-4
+    slice-write-masks-4
     returns
     same-length
     returns-2
