@@ -2,7 +2,7 @@
 use mathlib.Core.Path.{_≡_, refl, sym, ap, _∙_}
 use mathlib.Core.Logic.{_≢_, inl, inr}
 use mathlib.Core.Bool.{Bool, true, false}
-use mathlib.Core.List.{[], _∷_}
+use mathlib.Core.List.{List, [], _∷_}
 use Prim.Native.Nat.{ℕ, _+_, _*_, _<_, _≤_}
 use lib.ListN.{getD}
 use native.Mathlib.Omega.{arith}
@@ -10,7 +10,7 @@ use native.Mathlib.Decide.{ℕ-discrete, decLt}
 use borrow.Author.Tests.{leb-false, not-false}
 use Rattle.protocol.specs.declared.Action.{Action}
 use Rattle.protocol.specs.Names.{ruleOf}
-use Rattle.protocol.specs.Slices.{Table, main, copies, masks, sizesGood}
+use Rattle.protocol.specs.Slices.{Table, tableOf, main, copies, masks, sizesGood}
 use Rattle.protocol.specs.Cell.{Cell, cellOf}
 use Rattle.protocol.specs.Soundness.{sound}
 use Rattle.protocol.specs.First.{when, firstNumber}
@@ -21,8 +21,8 @@ use Rattle.protocol.proofs.NumberLaws.{code-fits}
 use Rattle.protocol.proofs.StepLaws.{accepted-value}
 use Rattle.protocol.proofs.Demand1.{accepted-exactly, refused-changes-nothing}
 use Rattle.protocol.proofs.RefusalOrder.{answers-3, answers-4, answers-7, answers-guard}
-use Rattle.table.specs.Statements.{Steps}
-use Rattle.table.specs.Code.{Ready, Room, MasksAt, currentAt, masksSound, copiesSound, GuardGives, Performs}
+use Rattle.table.specs.Statements.{Holds, Steps}
+use Rattle.table.specs.Code.{Ready, Room, MasksAt, currentAt, masksSound, copiesSound, GuardGives, Leaves, Values}
 use Rattle.table.proofs.ReadyLaws.{ready, room, copy-is, as-live, as-dirty, as-lock, current-is}
 use Rattle.table.proofs.SoundLaws.{masks-below, unsound-masks, by-copies}
 
@@ -52,6 +52,11 @@ formed rule a e = go (malformed a) refl (missing rule (a .code)) refl
     go false f true g = let z : _≡_ {A = ℕ} 4 0 = rw (f, g) at e in absurd (omega arith)
     go false f false g = (f, g)
 
+by-slice : (u : Table) (m k w : List ℕ) → m ≡ u main → k ≡ u copies → w ≡ u masks → Holds (tableOf m k w) u
+by-slice u m k w a b c main = a
+by-slice u m k w a b c copies = b
+by-slice u m k w a b c masks = c
+
 module _ (rule boards cells : ℕ) (t : Table) (a : Action) where
   -- accepted: the places that the action uses
   pub accepted-room : answer rule boards cells t a .number ≡ 0 → Room boards cells (a .cell) (a .board) (a .to) t × (a .code ≤ 8)
@@ -69,15 +74,15 @@ module _ (rule boards cells : ℕ) (t : Table) (a : Action) where
       record { number = e; value = sym (f .1); slices = λ s. ap (λ (u : Table). u s) (sym (f .0)) }
 
   -- accepted: the action's value, and its effect stored
-  pub went : (n r : ℕ) (t′ : Table) → n ≡ answer rule boards cells t a .number → n ≡ 0 → Performs boards cells t a r t′ →
-      Steps boards cells t rule a (record { number = n; value = r }) t′
+  pub went : (n r : ℕ) (m k w : List ℕ) → n ≡ answer rule boards cells t a .number → n ≡ 0 → Values boards cells t a r m k → Leaves boards cells t a masks w →
+      Steps boards cells t rule a (record { number = n; value = r }) (tableOf m k w)
   unfolding tableAfterBy answerBy seenBy
-  went n r t′ e z p =
+  went n r m k w e z v f =
       let ok : answer rule boards cells t a .number ≡ 0 = sym e ∙ z in
       record {
         number = e;
-        value = p .value ∙ sym (accepted-value rule boards cells (seen boards cells t (a .cell)) a ok);
-        slices = rw ok (p .stored (ruleOf rule));
+        value = v .value ∙ sym (accepted-value rule boards cells (seen boards cells t (a .cell)) a ok);
+        slices = rw ok (by-slice _ m k w (v .in-main (ruleOf rule)) (v .in-copies (ruleOf rule)) (f (ruleOf rule)));
       }
 
   -- refused for its form: 3, or 4

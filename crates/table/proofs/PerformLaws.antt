@@ -9,25 +9,16 @@ use lib.ListN.{getD, set}
 use lib.Seq.{getD-set-other}
 use Rattle.protocol.specs.Names.{procOf}
 use Rattle.protocol.specs.Masks.{withBoard, withoutBoard}
-use Rattle.protocol.specs.Slices.{main, copies, masks, sliceNumber, Table, tableOf, width, cellByCell}
+use Rattle.protocol.specs.Slices.{main, copies, masks, sliceNumber, Table, width, cellByCell}
 use Rattle.protocol.specs.Cell.{Cell, mainValue, copyAt, liveMask, dirtyMask, lockMask, cellOf}
 use Rattle.protocol.specs.Effects.{effect, valueOf, storeBy, storesBy}
-use Rattle.table.specs.Statements.{Holds}
-use Rattle.table.specs.Code.{Room, Performs, actionOf, marked, received}
+use Rattle.protocol.specs.declared.Action.{Action}
+use Rattle.table.specs.Code.{Room, actionOf, Leaves, Values, received}
 use Rattle.table.proofs.ReadyLaws.{main-is, copy-is, live-is, dirty-is, lock-is}
-
-by-slice : (u : Table) (m k w : List ℕ) → m ≡ u main → k ≡ u copies → w ≡ u masks → Holds (tableOf m k w) u
-by-slice u m k w a b c main = a
-by-slice u m k w a b c copies = b
-by-slice u m k w a b c masks = c
 
 module _ (boards cells cell board to value : ℕ) (t : Table) (y : Room boards cells cell board to t) where
   abbrev x : Cell
   x = cellOf boards cells t cell
-
-  -- the action of a code answers r, and leaves these lists
-  abbrev Does : (code r : ℕ) → (m k w : List ℕ) → Type 0
-  Does code r m k w = Performs boards cells t (actionOf code board to cell value) r (tableOf m k w)
 
   a-copy : copyAt x board ≡ getD (t copies) (cell * boards + board) 0
   a-copy = copy-is boards cells cell t (y .ready) board (y .home)
@@ -50,45 +41,88 @@ module _ (boards cells cell board to value : ℕ) (t : Table) (y : Room boards c
   at-main : cell * 1 + 0 ≡ cell
   at-main = omega arith
 
-  pub does-read : Does 0 (getD (t copies) (cell * boards + board) 0) (t main) (t copies) (t masks)
-  unfolding procOf valueOf effect storesBy
-  does-read = record { value = sym a-copy; stored = λ r. by-slice _ _ _ _ refl refl refl }
+  -- the action of a code
+  abbrev does : (code : ℕ) → Action
+  does code = actionOf code board to cell value
 
-  pub does-write : (w₁ : List ℕ) → w₁ ≡ received (t masks) (cell * 3) board true → Does 1 0 (t main) (set (t copies) (cell * boards + board) value) w₁
+  -- ---- main and the copies
+
+  abbrev Answers : (code r : ℕ) → (m k : List ℕ) → Type 0
+  Answers code r m k = Values boards cells t (does code) r m k
+
+  pub read-values : Answers 0 (getD (t copies) (cell * boards + board) 0) (t main) (t copies)
   unfolding procOf valueOf effect storesBy storeBy sliceNumber cellByCell width
-  does-write w₁ e =
+  read-values = record { value = sym a-copy; in-main = λ r. refl; in-copies = λ r. refl }
+
+  pub write-values : Answers 1 0 (t main) (set (t copies) (cell * boards + board) value)
+  unfolding procOf valueOf effect storesBy storeBy sliceNumber cellByCell width
+  write-values = record { value = refl; in-main = λ r. refl; in-copies = λ r. refl }
+
+  pub barrier-values : Answers 2 0 (t main) (t copies)
+  unfolding procOf valueOf effect storesBy storeBy sliceNumber cellByCell width
+  barrier-values = record { value = refl; in-main = λ r. refl; in-copies = λ r. refl }
+
+  pub mtoc-values : Answers 3 0 (t main) (set (t copies) (cell * boards + board) (getD (t main) cell 0))
+  unfolding procOf valueOf effect storesBy storeBy sliceNumber cellByCell width
+  mtoc-values = record { value = refl; in-main = λ r. refl; in-copies = λ r. rw a-main }
+
+  pub ctom-values : Answers 4 0 (set (t main) cell (getD (t copies) (cell * boards + board) 0)) (t copies)
+  unfolding procOf valueOf effect storesBy storeBy sliceNumber cellByCell width
+  ctom-values = record { value = refl; in-main = λ r. rw (a-copy, at-main); in-copies = λ r. refl }
+
+  pub ctoc-values : Answers 5 0 (t main) (set (t copies) (cell * boards + to) (getD (t copies) (cell * boards + board) 0))
+  unfolding procOf valueOf effect storesBy storeBy sliceNumber cellByCell width
+  ctoc-values = record { value = refl; in-main = λ r. refl; in-copies = λ r. rw a-copy }
+
+  pub drop-values : Answers 6 0 (t main) (set (t copies) (cell * boards + board) 0)
+  unfolding procOf valueOf effect storesBy storeBy sliceNumber cellByCell width
+  drop-values = record { value = refl; in-main = λ r. refl; in-copies = λ r. refl }
+
+  pub acquire-values : Answers 7 0 (t main) (t copies)
+  unfolding procOf valueOf effect storesBy storeBy sliceNumber cellByCell width
+  acquire-values = record { value = refl; in-main = λ r. refl; in-copies = λ r. refl }
+
+  pub release-values : Answers 8 0 (t main) (t copies)
+  unfolding procOf valueOf effect storesBy storeBy sliceNumber cellByCell width
+  release-values = record { value = refl; in-main = λ r. refl; in-copies = λ r. refl }
+
+  -- ---- the masks
+
+  pub read-masks : Leaves boards cells t (does 0) masks (t masks)
+  unfolding procOf effect storesBy storeBy sliceNumber cellByCell width
+  read-masks r = refl
+
+  pub write-masks : (w′ : List ℕ) → w′ ≡ received (t masks) (cell * 3) board true → Leaves boards cells t (does 1) masks w′
+  unfolding procOf effect storesBy storeBy sliceNumber cellByCell width
+  write-masks w′ e r =
       let n : cell * 3 + 1 ≢ cell * 3 = omega arith in
       let b = getD-set-other (t masks) (cell * 3) (cell * 3 + 1) (withBoard (getD (t masks) (cell * 3) 0) board) 0 n in
-      record { value = refl; stored = λ r. by-slice _ _ _ _ refl refl (rw (e, b, a-live, a-dirty, at-0)) }
+      rw (e, b, a-live, a-dirty, at-0)
 
-  pub does-barrier : Does 2 0 (t main) (t copies) (t masks)
-  unfolding procOf valueOf effect storesBy
-  does-barrier = record { value = refl; stored = λ r. by-slice _ _ _ _ refl refl refl }
+  pub barrier-masks : Leaves boards cells t (does 2) masks (t masks)
+  unfolding procOf effect storesBy storeBy sliceNumber cellByCell width
+  barrier-masks r = refl
 
-  pub does-mtoc : (w₁ : List ℕ) → w₁ ≡ received (t masks) (cell * 3) board false →
-      Does 3 0 (t main) (set (t copies) (cell * boards + board) (getD (t main) cell 0)) w₁
-  unfolding procOf valueOf effect storesBy storeBy sliceNumber cellByCell width
-  does-mtoc w₁ e = record { value = refl; stored = λ r. by-slice _ _ _ _ refl (rw a-main) (rw (e, a-live, at-0)) }
+  pub mtoc-masks : (w′ : List ℕ) → w′ ≡ received (t masks) (cell * 3) board false → Leaves boards cells t (does 3) masks w′
+  unfolding procOf effect storesBy storeBy sliceNumber cellByCell width
+  mtoc-masks w′ e r = rw (e, a-live, at-0)
 
-  pub does-ctom : (w₁ : List ℕ) → w₁ ≡ set (t masks) (cell * 3 + 1) (withoutBoard (getD (t masks) (cell * 3 + 1) 0) board) →
-      Does 4 0 (set (t main) cell (getD (t copies) (cell * boards + board) 0)) (t copies) w₁
-  unfolding procOf valueOf effect storesBy storeBy sliceNumber cellByCell width
-  does-ctom w₁ e = record { value = refl; stored = λ r. by-slice _ _ _ _ (rw (a-copy, at-main)) refl (rw (e, a-dirty)) }
+  pub ctom-masks : (v : ℕ) → v ≡ withoutBoard (getD (t masks) (cell * 3 + 1) 0) board → Leaves boards cells t (does 4) masks (set (t masks) (cell * 3 + 1) v)
+  unfolding procOf effect storesBy storeBy sliceNumber cellByCell width
+  ctom-masks v e r = rw (e, a-dirty)
 
-  pub does-ctoc : (w₁ : List ℕ) → w₁ ≡ received (t masks) (cell * 3) to false →
-      Does 5 0 (t main) (set (t copies) (cell * boards + to) (getD (t copies) (cell * boards + board) 0)) w₁
-  unfolding procOf valueOf effect storesBy storeBy sliceNumber cellByCell width
-  does-ctoc w₁ e = record { value = refl; stored = λ r. by-slice _ _ _ _ refl (rw a-copy) (rw (e, a-live, at-0)) }
+  pub ctoc-masks : (w′ : List ℕ) → w′ ≡ received (t masks) (cell * 3) to false → Leaves boards cells t (does 5) masks w′
+  unfolding procOf effect storesBy storeBy sliceNumber cellByCell width
+  ctoc-masks w′ e r = rw (e, a-live, at-0)
 
-  pub does-drop : (w₁ : List ℕ) → w₁ ≡ set (t masks) (cell * 3) (withoutBoard (getD (t masks) (cell * 3) 0) board) →
-      Does 6 0 (t main) (set (t copies) (cell * boards + board) 0) w₁
-  unfolding procOf valueOf effect storesBy storeBy sliceNumber cellByCell width
-  does-drop w₁ e = record { value = refl; stored = λ r. by-slice _ _ _ _ refl refl (rw (e, a-live, at-0)) }
+  pub drop-masks : (v : ℕ) → v ≡ withoutBoard (getD (t masks) (cell * 3) 0) board → Leaves boards cells t (does 6) masks (set (t masks) (cell * 3) v)
+  unfolding procOf effect storesBy storeBy sliceNumber cellByCell width
+  drop-masks v e r = rw (e, a-live, at-0)
 
-  pub does-acquire : (w₁ : List ℕ) → w₁ ≡ marked (t masks) (cell * 3 + 2) board → Does 7 0 (t main) (t copies) w₁
-  unfolding procOf valueOf effect storesBy storeBy sliceNumber cellByCell width
-  does-acquire w₁ e = record { value = refl; stored = λ r. by-slice _ _ _ _ refl refl (rw (e, a-lock)) }
+  pub acquire-masks : (v : ℕ) → v ≡ withBoard (getD (t masks) (cell * 3 + 2) 0) board → Leaves boards cells t (does 7) masks (set (t masks) (cell * 3 + 2) v)
+  unfolding procOf effect storesBy storeBy sliceNumber cellByCell width
+  acquire-masks v e r = rw (e, a-lock)
 
-  pub does-release : (w₁ : List ℕ) → w₁ ≡ set (t masks) (cell * 3 + 2) (withoutBoard (getD (t masks) (cell * 3 + 2) 0) board) → Does 8 0 (t main) (t copies) w₁
-  unfolding procOf valueOf effect storesBy storeBy sliceNumber cellByCell width
-  does-release w₁ e = record { value = refl; stored = λ r. by-slice _ _ _ _ refl refl (rw (e, a-lock)) }
+  pub release-masks : (v : ℕ) → v ≡ withoutBoard (getD (t masks) (cell * 3 + 2) 0) board → Leaves boards cells t (does 8) masks (set (t masks) (cell * 3 + 2) v)
+  unfolding procOf effect storesBy storeBy sliceNumber cellByCell width
+  release-masks v e r = rw (e, a-lock)

@@ -9,9 +9,8 @@ use lib.Count.{ones}
 use lib.ListN.{length, getD, set}
 use Rattle.protocol.specs.Names.{Rule, ruleOf, procOf}
 use Rattle.protocol.specs.Masks.{hasBoard, withBoard, lowestBoard}
-use Rattle.protocol.specs.Slices.{Slice, main, copies, masks, Table, width}
+use Rattle.protocol.specs.Slices.{Slice, main, copies, masks, Table, tableOf, width}
 use Rattle.protocol.specs.Effects.{effect, valueOf, storesIn}
-use Rattle.table.specs.Statements.{Holds}
 use Rattle.protocol.specs.Cell.{Cell, cellOf, copyAt, liveMask, dirtyMask, lockMask, currentValue}
 use Rattle.protocol.specs.Soundness.{everyBoard}
 use Rattle.protocol.specs.First.{firstNumber}
@@ -88,7 +87,22 @@ GuardGives rule live dirty lock copy current a n =
 abbrev pub actionOf : (code board to cell value : ℕ) → Action
 actionOf code board to cell value = record { code = code; board = board; to = to; cell = cell; value = value }
 
--- what an accepted action answers and stores, whatever the rule
-pub record Performs (boards cells : ℕ) (t : Table) (a : Action) (r : ℕ) (t′ : Table) : Type 0 where
+-- what an accepted action leaves in a slice, whatever the rule
+abbrev pub Leaves : (boards cells : ℕ) → Table → Action → Slice → List ℕ → Type 0
+Leaves boards cells t a s l = (rule : Rule) → l ≡ storesIn boards (a .cell) t (effect rule boards (cellOf boards cells t (a .cell)) (procOf a)) s
+
+-- what it answers, and leaves in main and the copies
+pub record Values (boards cells : ℕ) (t : Table) (a : Action) (r : ℕ) (m′ k′ : List ℕ) : Type 0 where
   pub value : r ≡ valueOf (cellOf boards cells t (a .cell)) (procOf a)
-  pub stored : (rule : Rule) → Holds t′ (storesIn boards (a .cell) t (effect rule boards (cellOf boards cells t (a .cell)) (procOf a)))
+  pub in-main : Leaves boards cells t a main m′
+  pub in-copies : Leaves boards cells t a copies k′
+
+-- the same, whatever stands in the masks
+abbrev pub StoresValues : (boards : ℕ) → (m k : List ℕ) → Action → (r : ℕ) → (m′ k′ : List ℕ) → Type 0
+StoresValues boards m k a r m′ k′ =
+    (cells : ℕ) (w : List ℕ) → Room boards cells (a .cell) (a .board) (a .to) (tableOf m k w) → Values boards cells (tableOf m k w) a r m′ k′
+
+-- and what it leaves in the masks, whatever stands in main and the copies
+abbrev pub StoresMasks : (w : List ℕ) → (code board to cell : ℕ) → (w′ : List ℕ) → Type 0
+StoresMasks w code board to cell w′ =
+    (boards cells value : ℕ) (m k : List ℕ) → Room boards cells cell board to (tableOf m k w) → Leaves boards cells (tableOf m k w) (actionOf code board to cell value) masks w′

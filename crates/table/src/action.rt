@@ -1,9 +1,10 @@
 // An action on a table in lent slices: what stands against it, and what it does.
 ghost use mathlib.Core.Path.{_≡_};
-ghost use Prim.Native.Nat.{_≤_};
+ghost use Prim.Native.Nat.{_+_, _*_, _<_, _≤_};
+ghost use lib.ListN.{length};
 ghost use Rattle.protocol.specs.Slices.{tableOf};
 ghost use Rattle.protocol.specs.Step.{answer};
-ghost use Rattle.table.specs.Code.{Room, Performs, actionOf};
+ghost use Rattle.table.specs.Code.{StoresValues, StoresMasks, actionOf};
 use crate::cell;
 use crate::mask;
 use crate::rules;
@@ -51,34 +52,28 @@ pub fn refusal(
     rules::guard(rule, m, copy, now, a)
 }
 
-// The effect of an accepted action, and the value that it answers.
-pub fn perform(
+// What an accepted action stores in main and the copies, and the value that it answers.
+pub fn store_values(
     boards: usize,
-    cells: usize,
     main: &mut [u32],
     copies: &mut [u32],
-    masks: &mut [u16],
     code: u8,
     board: usize,
     to: usize,
     cell: usize,
     value: u32,
 ) -> u32
-    requires { ⌜ Room boards cells cell board to (tableOf (now main) (now copies) (now masks)) × (code ≤ 8) ⌝ }
-    ensures { λ r. ⌜ Performs boards cells (tableOf (now (main .entry)) (now (copies .entry)) (now (masks .entry))) (actionOf code board to cell value) r (tableOf (now (main .exit)) (now (copies .exit)) (now (masks .exit))) ⌝ }
+    requires { ⌜ (cell < length (now main)) × (cell * boards + board < length (now copies)) × (cell * boards + to < length (now copies)) × (code ≤ 8) ⌝ }
+    ensures { λ r. ⌜ StoresValues boards (now (main .entry)) (now (copies .entry)) (actionOf code board to cell value) r (now (main .exit)) (now (copies .exit)) ⌝ }
 {
     let home = cell * boards + board;
     let there = cell * boards + to;
-    let live = cell * protocol::MASKS_PER_CELL;
-    let dirty = cell * protocol::MASKS_PER_CELL + 1;
-    let lock = cell * protocol::MASKS_PER_CELL + 2;
     match code {
         // Read
         0 => copies[home],
         // Write
         1 => {
             copies[home] = value;
-            mask::receive(masks, live, board, true);
             0
         }
         // Barrier
@@ -86,36 +81,64 @@ pub fn perform(
         // MtoC
         3 => {
             copies[home] = main[cell];
-            mask::receive(masks, live, board, false);
             0
         }
         // CtoM
         4 => {
             main[cell] = copies[home];
-            mask::unmark(masks, dirty, board);
             0
         }
         // CtoC
         5 => {
             copies[there] = copies[home];
-            mask::receive(masks, live, to, false);
             0
         }
         // Drop
         6 => {
             copies[home] = 0;
-            mask::unmark(masks, live, board);
             0
         }
         // Acquire
+        7 => 0,
+        // Release: 8, for a code above it is refused
+        _ => 0,
+    }
+}
+
+// What it stores in the masks.
+pub fn store_masks(masks: &mut [u16], code: u8, board: usize, to: usize, cell: usize)
+    requires { ⌜ (cell * 3 + 2 < length (now masks)) × (board < 16) × (to < 16) × (code ≤ 8) ⌝ }
+    ensures { λ _. ⌜ StoresMasks (now (masks .entry)) code board to cell (now (masks .exit)) ⌝ }
+{
+    let live = cell * protocol::MASKS_PER_CELL;
+    let dirty = live + 1;
+    let lock = live + 2;
+    match code {
+        // Read
+        0 => {}
+        // Write
+        1 => mask::receive(masks, live, board, true),
+        // Barrier
+        2 => {}
+        // MtoC
+        3 => mask::receive(masks, live, board, false),
+        // CtoM
+        4 => {
+            masks[dirty] = mask::without_board(masks[dirty], board);
+        }
+        // CtoC
+        5 => mask::receive(masks, live, to, false),
+        // Drop
+        6 => {
+            masks[live] = mask::without_board(masks[live], board);
+        }
+        // Acquire
         7 => {
-            mask::mark(masks, lock, board);
-            0
+            masks[lock] = mask::with_board(masks[lock], board);
         }
         // Release: 8, for a code above it is refused
         _ => {
-            mask::unmark(masks, lock, board);
-            0
+            masks[lock] = mask::without_board(masks[lock], board);
         }
     }
 }

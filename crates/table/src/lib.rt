@@ -129,17 +129,8 @@ pub fn step(
     let board = action.board as usize;
     let to = action.to as usize;
     let cell = action.cell as usize;
-    let value = action::perform(
-        boards,
-        cells,
-        main,
-        copies,
-        masks,
-        action.code,
-        board,
-        to,
-        cell,
-        action.value,
-    );
+    let code = action.code;
+    let value = action::store_values(boards, main, copies, code, board, to, cell, action.value);
+    action::store_masks(masks, code, board, to, cell);
     Answer { number, value }
 }

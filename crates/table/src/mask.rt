@@ -2,9 +2,9 @@
 ghost use mathlib.Core.Path.{_≡_};
 ghost use Prim.Native.Nat.{_+_, _<_, _≤_, _^_};
 ghost use lib.Dec.{ltb};
-ghost use lib.ListN.{length, getD, set};
+ghost use lib.ListN.{length};
 ghost use Rattle.protocol.specs.Masks.{hasBoard, withBoard, withoutBoard, hasAnother};
-ghost use Rattle.table.specs.Code.{within, marked, received};
+ghost use Rattle.table.specs.Code.{within, received};
 
 pub fn has_board(mask: u16, board: usize) -> bool
     requires { ⌜ board < 16 ⌝ }
@@ -50,29 +50,14 @@ pub fn is_below(mask: u16, boards: usize) -> bool
     (mask as u32) < (1 << boards)
 }
 
-// The board is put into the mask at a place.
-pub fn mark(masks: &mut [u16], at: usize, board: usize)
-    requires { ⌜ (at < length (now masks)) × (board < 16) ⌝ }
-    ensures { λ _. ⌜ now (masks .exit) ≡ marked (now (masks .entry)) at board ⌝ }
-{
-    masks[at] = with_board(masks[at], board);
-}
-
 // The board gets a copy: it is live and, where the copy was written there, dirty.
 pub fn receive(masks: &mut [u16], live: usize, board: usize, written: bool)
     requires { ⌜ (live + 1 < length (now masks)) × (board < 16) ⌝ }
     ensures { λ _. ⌜ now (masks .exit) ≡ received (now (masks .entry)) live board written ⌝ }
 {
-    mark(masks, live, board);
+    masks[live] = with_board(masks[live], board);
     if written {
-        mark(masks, live + 1, board);
+        let dirty = live + 1;
+        masks[dirty] = with_board(masks[dirty], board);
     }
-}
-
-// The board is taken out of the mask at a place.
-pub fn unmark(masks: &mut [u16], at: usize, board: usize)
-    requires { ⌜ (at < length (now masks)) × (board < 16) ⌝ }
-    ensures { λ _. ⌜ now (masks .exit) ≡ set (now (masks .entry)) at (withoutBoard (getD (now (masks .entry)) at 0) board) ⌝ }
-{
-    masks[at] = without_board(masks[at], board);
 }

@@ -1,9 +1,16 @@
--- `step`: the number decides, and an accepted action is performed. Assumes nothing.
+-- `step`: the number decides, and an accepted action is stored. Assumes nothing.
 use mathlib.Core.Path.{sym, _∙_}
+use Prim.Native.Nat.{_≤_}
+use Rattle.protocol.specs.Slices.{tableOf}
+use Rattle.table.specs.Code.{Room}
 use Rattle.table.proofs.ActionLaws.{accepted-room, stopped, went}
 use borrow.Author.Needs.{needs}
 use Rattle.table.proofs.step.Statement.{statement}
 use Rattle.table.proofs.step.Tie as tie
+
+-- accepted: the places that the action uses
+accepted : (c : tie.Else1) → let a = c .before .before .before .before .before .before .before .before .args in Room (a .boards) (a .cells) (a .action .cell) (a .action .board) (a .action .to) (tableOf (a .main .now) (a .copies .now) (a .masks .now)) × (a .action .code ≤ 8)
+accepted c = accepted-room _ _ _ _ _ (sym (c .before .refusal .ensures) ∙ c .if1 .left)
 
 refusal-requires : tie.Need-refusal-requires
 refusal-requires c κs = search needs
@@ -29,8 +36,11 @@ cast-to c = search needs
 cast-cell : tie.Need-cast-cell
 cast-cell c = search needs
 
-perform-requires : tie.Need-perform-requires
-perform-requires c κs = accepted-room _ _ _ _ _ (sym (c .before .before .before .before .before .before .before .refusal .ensures) ∙ c .before .before .before .before .before .before .if1 .left)
+store-values-requires : tie.Need-store-values-requires
+store-values-requires c κs = let y = accepted (c .before .before .before .before .before) in (y .0 .at-main, y .0 .at-home, y .0 .at-there, y .1)
+
+store-masks-requires : tie.Need-store-masks-requires
+store-masks-requires c κs = let y = accepted (c .before .before .before .before .before .before .before .before .before .before .before) in (y .0 .at-masks, y .0 .low, y .0 .low-there, y .1)
 
 same-length-4 : tie.Need-same-length-4
 same-length-4 c = search needs
@@ -42,7 +52,8 @@ same-length-6 : tie.Need-same-length-6
 same-length-6 c = search needs
 
 returns-2 : tie.Need-returns-2
-returns-2 c = went _ _ _ _ _ _ _ _ (c .before .before .before .before .before .before .before .before .before .before .before .before .before .before .refusal .ensures) (c .before .before .before .before .before .before .before .before .before .before .before .before .before .if1 .left) (c .before .before .before .before .before .before .perform .ensures)
+returns-2 c = let y = accepted (c .before .before .before .before .before .before .before .before .before .before .before .before .before .before) .0 in
+    went _ _ _ _ _ _ _ _ _ _ (c .before .before .before .before .before .before .before .before .before .before .before .before .before .before .before .refusal .ensures) (c .before .before .before .before .before .before .before .before .before .before .before .before .before .before .if1 .left) (c .before .before .before .before .before .before .before .before .store-values .ensures _ _ y) (c .before .before .store-masks .ensures _ _ _ _ _ y)
 
 pub step-spec : {M : Type 1} → statement M
 step-spec =
@@ -56,7 +67,8 @@ step-spec =
     cast-board
     cast-to
     cast-cell
-    perform-requires
+    store-values-requires
+    store-masks-requires
     same-length-4
     same-length-5
     same-length-6
