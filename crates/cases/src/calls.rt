@@ -20,7 +20,7 @@ const OUT: u16 = 64;
 const VALUES: u16 = 128;
 
 // The numbers of a call; 0 for those that it has not. The call itself is its number, 256 times, and its parts.
-#[derive(Drop)]
+#[derive(Clone, Copy)]
 struct Asked {
     call: u16,
     rule: u8,

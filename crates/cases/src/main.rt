@@ -1,4 +1,6 @@
 // Answers calls of `table`, `sessions` and `listing`: one call a line on standard input, one line for each on standard output.
+#![tactic(auto)]
+
 mod calls;
 mod print;
 mod slices;

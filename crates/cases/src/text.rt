@@ -4,7 +4,7 @@ ghost use Rattle.std.specs.Prelude.{◌≤◌, length};
 pub const NOWHERE: usize = usize::MAX;
 
 // A number, and the place behind it.
-#[derive(Drop)]
+#[derive(Clone, Copy)]
 pub struct Read(pub usize, pub usize);
 
 // Where a byte stands next, from a place on; the end where it does not.

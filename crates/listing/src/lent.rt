@@ -1,7 +1,7 @@
 // The sizes of the table that a listing lends to the run.
 ghost use Rattle.listing.specs.Code.{Lent};
 
-#[derive(Drop)]
+#[derive(Clone, Copy)]
 pub struct Size {
     pub boards: usize,
     pub cells: usize,

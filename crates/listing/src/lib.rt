@@ -1,4 +1,6 @@
 // The listing of a session file: what the program `session` writes.
+#![tactic(auto)]
+
 ghost use Rattle.listing.specs.Statements.{Lists};
 
 mod decimal;
@@ -9,7 +11,7 @@ mod records;
 mod run;
 
 // How long a listing is; the number is 20 where there is no room for it, else 0.
-#[derive(Drop)]
+#[derive(Clone, Copy)]
 pub struct Listed {
     pub number: u8,
     pub length: usize,

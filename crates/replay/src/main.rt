@@ -1,4 +1,6 @@
 // Lists many session files from standard input, one behind the other, each with its length before it as four bytes, little-endian.
+#![tactic(auto)]
+
 ghost use Rattle.std.specs.Prelude.{◌≤◌};
 
 // The length, where its two upper bytes are 0: no file here has 65,536 bytes.

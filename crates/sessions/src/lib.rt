@@ -1,4 +1,6 @@
 // The session file and its run: a reader, a writer, and a run of the file's records over a table in lent memory.
+#![tactic(auto)]
+
 ghost use Rattle.protocol.specs.Slices.{table_of};
 ghost use Rattle.sessions.specs.Statements.{HeadOf, Reads, Writes, Runs};
 
@@ -13,7 +15,7 @@ mod writer;
 use protocol::Answer;
 
 // What a session file says before its records: its rule, P and N, where the records begin, and how many there are.
-#[derive(Drop)]
+#[derive(Clone, Copy)]
 pub struct Head {
     pub rule: u8,
     pub boards: usize,
@@ -23,7 +25,7 @@ pub struct Head {
 }
 
 // What a run reports: the number of its answer, how many records were accepted, and how many copies are stale at its end.
-#[derive(Drop)]
+#[derive(Clone, Copy)]
 pub struct Report {
     pub number: u8,
     pub accepted: usize,
@@ -31,7 +33,7 @@ pub struct Report {
 }
 
 // What a session file says: its records, a part of the file, the number of the answer, and the file's three numbers.
-#[derive(Drop)]
+#[derive(Clone, Copy)]
 pub struct Session<'a> {
     pub records: &'a [u8],
     pub number: u8,

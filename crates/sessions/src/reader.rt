@@ -7,7 +7,7 @@ ghost use Rattle.sessions.specs.Statements.{Reads};
 use crate::{bytes, refusals};
 
 // The answer's number, the three numbers of the file, and the place of the first record; the file's end where it is refused.
-#[derive(Drop)]
+#[derive(Clone, Copy)]
 pub struct Header {
     pub number: u8,
     pub rule: u8,

@@ -4,7 +4,7 @@ ghost use Rattle.table.specs.Code.{MasksAt, current_at, masks_sound, copy_sound,
 
 use crate::mask;
 
-#[derive(Drop)]
+#[derive(Clone, Copy)]
 pub struct Masks {
     pub live: u16,
     pub dirty: u16,

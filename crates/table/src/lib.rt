@@ -1,4 +1,6 @@
 // The table over lent memory: its sizes, a fresh table, a check of the whole table, and one action on it.
+#![tactic(auto)]
+
 ghost use Rattle.std.specs.Prelude.{◌≡◌};
 ghost use Rattle.protocol.specs.Slices.{table_of, in_range, sizes_good};
 ghost use Rattle.table.specs.Statements.{Freshens, Checks, Steps};
@@ -12,7 +14,7 @@ mod rules;
 use protocol::{Action, Answer};
 
 // What a whole-table check finds: every cell sound, the lowest-numbered cell that is not, or a refusal's number.
-#[derive(Drop)]
+#[derive(Clone, Copy)]
 pub enum Checked {
     Sound,
     Unsound(usize),

@@ -1,4 +1,6 @@
 // The listing of a session file as one function for C: include/tramusquet.h declares it.
+#![tactic(auto)]
+
 ghost use Rattle.tramusquet.specs.Statements.{ListsIn};
 
 // Puts the listing at the start of `out`, and answers how long it is; without room answers 0, and changes nothing.
