@@ -16,7 +16,7 @@ use Rattle.protocol.specs.Slices.{slice_number, Table}
 use Rattle.protocol.specs.Cell.{Cell, main_value, copy_at, cell_of}
 use Rattle.protocol.specs.First.{Refusal, first, All}
 use Rattle.protocol.specs.Effects.{effect, value_of}
-use Rattle.protocol.specs.Step.{Seen, seen_by, seen, refusals, answer_to, answer_by, answer, table_after}
+use Rattle.protocol.specs.Step.{Seen, seen_by, seen, refusals, answer_to, answer_by, table_after}
 use Rattle.protocol.specs.Fresh.{fresh_table}
 use Rattle.protocol.specs.Runs.{Line, log_by, log, is_write}
 use Rattle.protocol.proofs.CurrentKept.{written_by}

@@ -10,7 +10,7 @@ use lib.Count.{ones}
 use borrow.Author.Tests.{eq-eqb, eqb-true, eqb-false, ltb-true, lt-ltb, not-true}
 use Rattle.protocol.specs.Masks.{has_board, has_another, lowest_board}
 use Rattle.protocol.specs.Soundness.{every_board}
-use Rattle.protocol.proofs.Booleans.{clash, not_so, and_left, and_right, and_both, either, board_at, boards_imply}
+use Rattle.protocol.proofs.Booleans.{clash, not_so, and_left, and_right, and_both, either, boards_imply}
 use Rattle.protocol.proofs.MaskLaws.{same_mask, has_none, has_lowest, high_of_lt, another_false, ones_same}
 use Rattle.protocol.proofs.BoundedMasks.{below}
 use Rattle.table.specs.Code.{within}

@@ -1,15 +1,28 @@
-use Rattle.std.proofs.Common.{rules, ◌≡◌, ◌+◌, ◌*◌, ◌<◌, ◌≤◌, ◌^◌, length, ℕ, ◌-◌, ◌/◌, ◌%◌, Bool, true, false, nat_eq, nat_lt, List, [], ◌∷◌, ◌++◌, slice_index_or, slice_set, bit_and, bit_or, Fits, w8, w32, w64, Bor, MutBor}
-use Rattle.table.specs.Code.{MasksAt, current_at, masks_sound, copy_sound, copies_sound}
+-- `current` is the dirty copy if there is one, else main. Assumes nothing.
+use Rattle.std.proofs.Common.{◌≡◌, ℕ, ◌<◌, ◌≤◌, ◌^◌, arith, eq-eqb}
+use lib.Pow.{pow_mono}
+use lib.Count.{count_trailing_zeros}
+use borrow.Author.Tests.{ne_eqb}
+use Rattle.protocol.specs.Masks.{lowest_board}
+use Rattle.table.specs.Code.{current_at}
+use Rattle.table.proofs.WordLaws.{lowest_code}
+use Rattle.table.proofs.ReadyLaws.{lowest_in}
 use Rattle.table.proofs.cell.current.Goals as goal
 
--- src/cell.rt:32:9
 pub returns-then-dirty-eq0 : goal.returns-then-dirty-eq0
-returns-then-dirty-eq0 c = ?
+unfolding current_at
+returns-then-dirty-eq0 c = rw (eq-eqb _ _ c.if-dirty-eq0.true)
 
--- src/cell.rt:35:5
+-- the dirty board
+board_is : (boards dirty : ℕ) → boards ≤ 16 → dirty < 2 ^ boards → (dirty ≡ 0 → ⊥) → count_trailing_zeros 16 dirty ≡ lowest_board dirty
+board_is boards dirty few fits some = lowest_code dirty (omega (arith, pow_mono few, fits)) some
+
 pub bounds-copies-cell : goal.bounds-copies-cell
-bounds-copies-cell c = ?
+bounds-copies-cell c =
+    let is = board_is c.args.boards c.args.dirty c.requires.0 c.requires.4 c.if-dirty-eq0.false in
+    let low : count_trailing_zeros 16 c.args.dirty < c.args.boards = rw is (lowest_in c.args.boards c.args.dirty c.requires.4 c.if-dirty-eq0.false) in
+    omega (arith, low, c.requires.3)
 
--- src/cell.rt:27:1
 pub returns : goal.returns
-returns c = ?
+unfolding current_at
+returns c = rw (board_is c.args.boards c.args.dirty c.requires.0 c.requires.4 c.if-dirty-eq0.false, ne_eqb _ _ c.if-dirty-eq0.false)
