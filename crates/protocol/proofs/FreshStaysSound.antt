@@ -75,9 +75,9 @@ fresh_sound rule boards starting c = (sound_exactly (rule_of rule) boards x).1 (
 
     stands : Stands (rule_of rule) boards x
     stands = record {
-      no_live_at_por_above = λ p l. off 0 p;
-      no_dirty_at_por_above = λ p l. off 1 p;
-      no_lock_at_por_above = λ p l. off 2 p;
+      no_live_at_p_or_above = λ p l. off 0 p;
+      no_dirty_at_p_or_above = λ p l. off 1 p;
+      no_lock_at_p_or_above = λ p l. off 2 p;
       not_live_holds_0 = λ p l h. fresh_copies boards starting c p;
       lock_mask_is_0 = λ l. fresh_masks boards starting c 2;
     }

@@ -11,7 +11,7 @@ use Rattle.protocol.specs.Names.{rule_number, rule_of}
 use Rattle.protocol.specs.Masks.{has_board}
 use Rattle.protocol.specs.Slices.{Table, copies, main, masks}
 use Rattle.protocol.specs.Cell.{Cell, copy_at, live_mask, dirty_mask, lock_mask, cell_of, current_value}
-use Rattle.protocol.specs.Soundness.{Condition, no_bit_at_por_above, not_live_holds_0, lock_mask_is_0, dirty_is_live, one_dirty, live_is_current, one_lock, locked_is_only, dirty_is_locked}
+use Rattle.protocol.specs.Soundness.{Condition, no_bit_at_p_or_above, not_live_holds_0, lock_mask_is_0, dirty_is_live, one_dirty, live_is_current, one_lock, locked_is_only, dirty_is_locked}
 use Rattle.protocol.specs.Soundness.{from, up_to, asked_by, every_board, meets, sound}
 use Rattle.protocol.proofs.Booleans.{clash, not_so, and_left, and_right, and_both, board_at, board_of}
 use Rattle.protocol.proofs.NumberLaws.{by_rule}
@@ -104,7 +104,7 @@ module _ (rule P : ℕ) (h : rule ≤ 4) (x : Cell) where
 
     in_bits : bits ≡ true
     unfolding meets from up_to
-    in_bits = met no_bit_at_por_above (omega arith) h
+    in_bits = met no_bit_at_p_or_above (omega arith) h
 
     sound_masks : masks_ok ≡ true
     unfolding masks_sound meets from up_to
@@ -150,7 +150,7 @@ module _ (rule P : ℕ) (h : rule ≤ 4) (x : Cell) where
       locks l = from_on rule 3 (leb (ones (lock_mask x)) 1 && locked_only) (and_right (bits && unlocked && dirty_live && one_dirty_test) one_lock_test m5) l
 
       go : (c : Condition) → from c ≤ rule → rule ≤ up_to c → meets P x c ≡ true
-      go no_bit_at_por_above l u = unfold meets in m1
+      go no_bit_at_p_or_above l u = unfold meets in m1
       go not_live_holds_0 l u = unfold meets in board_of P blank (λ p k. and_left (blank p) (ltb rule 2 || fresh_copy p) (b p k))
       go lock_mask_is_0 l u = unfold meets up_to in from_on 2 rule (eqb (lock_mask x) 0) (and_right bits unlocked m2) u
       go dirty_is_live l u = unfold meets in within_boards P (dirty_mask x) (bits_dirty P _ _ _ m1) (live_mask x) (and_right (bits && unlocked) dirty_live m3)
