@@ -8,6 +8,9 @@ ghost use Rattle.listing.specs.Code.{RunTold, Sized};
 
 use crate::{Listed, decimal, line, run};
 
+// How long the longest listing is.
+const LONGEST: usize = 94232;
+
 // The word `refused` and a blank.
 fn put_word(out: &mut [u8])
     requires { 8 ≤ length out.old }
@@ -43,7 +46,7 @@ fn list_refused(number: u8, out: &mut [u8]) -> Listed
     }
 }
 
-// Whether so many bytes have room for the lines of a run. The longest listing has 94,232: only a shorter slice asks how long this one is.
+// Whether so many bytes have room for the lines of a run. Only a slice that is shorter than the longest listing asks how long this one is.
 fn has_room(
     file: &[u8],
     numbers: &[u8],
@@ -55,7 +58,7 @@ fn has_room(
     requires { RunTold file.now numbers.now values.now accepted stale }
     ensures { result ≡ leb (length (run_listing file.now)) bytes }
 {
-    if bytes >= 94232 {
+    if bytes >= LONGEST {
         return true;
     }
     run::run_width(file, numbers, values, accepted, stale) <= bytes
