@@ -37,7 +37,7 @@ pub fn bar(line: &[u8], at: usize, has: bool) -> usize {
 
 // Less than 10 for the ten digits alone.
 fn digit(byte: u8) -> usize {
-    std::num::wrapping_sub_u8(byte, b'0') as usize
+    byte.wrapping_sub(b'0') as usize
 }
 
 // A number of decimal digits that is at most as large as it may be.

@@ -4,6 +4,8 @@
 ghost use Rattle.std.specs.Prelude.{◌≡◌, List, ℕ, ◌≤◌, length, take};
 ghost use Rattle.listing.specs.Listing.{listing_of};
 
+use std::io::{Read, Stdin};
+
 // How many bytes came, and whether a read failed.
 #[derive(Clone, Copy)]
 struct Input {
@@ -12,23 +14,28 @@ struct Input {
 }
 
 // Reads once: 0 bytes are the end of the input, where the read did not fail.
-fn read_some(rest: &mut [u8]) -> Input
+fn read_some(input: &mut Stdin, rest: &mut [u8]) -> Input
     ensures { result.length ≤ length rest.new }
 {
-    let got = libc::read(0, rest);
-    Input {
-        length: io::count(got, rest),
-        failed: got < 0,
+    match input.read(rest) {
+        Ok(length) => Input {
+            length,
+            failed: false,
+        },
+        Err(_) => Input {
+            length: 0,
+            failed: true,
+        },
     }
 }
 
 // Reads until the buffer is full, the input ends or a read fails.
-fn read_input(buffer: &mut [u8]) -> Input
+fn read_input(input: &mut Stdin, buffer: &mut [u8]) -> Input
     ensures { result.length ≤ length buffer.new }
 {
     let mut n = 0;
     while n < buffer.len() {
-        let more = read_some(&mut buffer[n..]);
+        let more = read_some(input, &mut buffer[n..]);
         if more.failed {
             return Input {
                 length: n,
@@ -55,9 +62,9 @@ fn first_bytes<'a>(buffer: &'a [u8], n: usize) -> &'a [u8]
 }
 
 // One byte more than the longest accepted file has: a longer file is cut there, and lists all the same.
-fn main() {
+fn main(rt: HostRuntime) {
     let mut buffer = [0u8; 38922];
-    let input = read_input(&mut buffer);
+    let input = read_input(&mut rt.stdin(), &mut buffer);
     // what came before a failed read is no file
     if input.failed {
         io::write_all(2, b"the session file could not be read\n");

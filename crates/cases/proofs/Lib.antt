@@ -1,2 +1,0 @@
--- The laws of arrays. Assumes nothing.
-mod Arrays
