@@ -4,7 +4,8 @@
 Definitions, fields, constructors, lemmas and the variables of laws that stand in specs/ and proofs/ are in snake case afterwards
 (hasBoard is has_board, one-more is one_more); types, modules and constructors that begin with a capital stay, and so does every name of
 src/, of the toolchain and of its library. Must-fail edits get the same names, and the projections and imports that port.py gives the files that
-they change; names in backticks in the pages follow. It stops where two names would fall together, before it has written anything.
+they change; names in backticks in the pages follow, and each crate is laid out by `rt fmt`. It stops where two names would fall together, before
+it has written anything.
 """
 
 import glob
@@ -108,7 +109,6 @@ def respelled(word):
 
 
 def edits(found):
-    left = []
     for path in sorted(glob.glob("crates/*/must-fail/*.edit")):
         crate, lines, antt = path.split("/")[1], [], False
         for line in read(path).split("\n"):
