@@ -4,14 +4,16 @@ use mathlib.Core.Path.{◌≡◌, refl, sym, ap, ◌∙◌, fun_ext}
 use mathlib.Core.Logic.{◌≢◌, ◌↔◌}
 use mathlib.Core.Bool.{Bool, true, false, cond, not, ◌||◌}
 use mathlib.Core.List.{List}
-use mathlib.Core.Option.{Option, some, none}
+use Rattle.std.specs.Prelude.{Option, Some, None}
 use Prim.Native.Nat.{ℕ, zero, suc, ◌<◌, ◌≤◌}
 use native.Mathlib.Omega.{arith}
 use native.Mathlib.Decide.{ℕ_discrete, dec_lt}
 use lib.Dec.{eqb, leb}
 use borrow.Author.Tests.{not-true, not-false, ltb-false, leb-false, le-ltb, lt-leb, le-leb}
 use Rattle.protocol.specs.declared.Action.{Action}
-use Rattle.protocol.specs.Names.{Rule, Proc, last_rule, last_code, rule_of, proc_of}
+use Rattle.protocol.specs.declared.Rule.{Rule}
+use Rattle.protocol.specs.declared.Proc.{Proc}
+use Rattle.protocol.specs.Names.{last_rule, last_code, rule_of, proc_of}
 use Rattle.protocol.specs.Masks.{has_board}
 use Rattle.protocol.specs.Slices.{Slice, main, copies, masks, Table, sizes_good, every, cell_by_cell, width}
 use Rattle.protocol.specs.Cell.{Cell, copy_at, live_mask, cell_of}
@@ -134,7 +136,7 @@ sizes_after = step_sizes
 
 -- ---- no other table has them
 
-same_some : (b d : Bool) (v w : ℕ) → ◌≡◌ {A = Option ℕ} (cond b (some v) none) (cond d (some w) none) → (b ≡ d) × (b ≡ true → v ≡ w)
+same_some : (b d : Bool) (v w : ℕ) → ◌≡◌ {A = Option ℕ} (cond b (Some v) None) (cond d (Some w) None) → (b ≡ d) × (b ≡ true → v ≡ w)
 same_some true true v w e = (refl, λ h. cc)
 same_some true false v w e = absurd (not_nil v e)
 same_some false true v w e = absurd (not_nil w (sym e))

@@ -4,12 +4,14 @@ use mathlib.Core.Path.{◌≡◌}
 use mathlib.Core.Logic.{◌≢◌}
 use mathlib.Core.Bool.{true, false}
 use mathlib.Core.List.{List}
-use mathlib.Core.Option.{none}
+use Rattle.std.specs.Prelude.{None}
 use Prim.Native.Nat.{ℕ, ◌<◌, ◌≤◌}
 use native.Mathlib.Omega.{arith}
 use lib.ListN.{length, get_or}
 use Rattle.protocol.specs.declared.Action.{Action}
-use Rattle.protocol.specs.Names.{Rule, IncoherentMemory, GlobalImpl, CurrentCaches, ExclusiveLocks0, ExclusiveLocks, last_rule, rule_of}
+use Rattle.protocol.specs.declared.Rule.{Rule}
+use Rattle.protocol.specs.declared.Rule.TheVariants.{IncoherentMemory, GlobalImpl, CurrentCaches, ExclusiveLocks0, ExclusiveLocks}
+use Rattle.protocol.specs.Names.{last_rule, rule_of}
 use Rattle.protocol.specs.Masks.{has_board}
 use Rattle.protocol.specs.Slices.{Table, masks}
 use Rattle.protocol.specs.Cell.{Cell, copy_at, live_mask, cell_of}
@@ -38,7 +40,7 @@ Sound rule boards cells t = (c : ℕ) → sound (rule_of rule) boards (cell_of b
 
 -- ---- a fresh cell
 
-module _ (P : ℕ) (h : State) (nil : (p : ℕ) → h.c p ≡ none) (clean : (p : ℕ) → h.dirty p ≡ false) (free : (p : ℕ) → h.lock p ≡ false) where
+module _ (P : ℕ) (h : State) (nil : (p : ℕ) → h.c p ≡ None) (clean : (p : ℕ) → h.dirty p ≡ false) (free : (p : ℕ) → h.lock p ≡ false) where
   i2 : Inv2 P h
   i2 p l d = absurd (clash d (clean p))
 

@@ -1,11 +1,12 @@
 -- "Refusing Drop on a board that isn't live, or Release on a board without the lock": both are accepted and change nothing. Assumes nothing.
 use mathlib.Core.Path.{◌≡◌, refl, sym, ◌∙◌, fun_ext}
 use mathlib.Core.Bool.{false}
-use mathlib.Core.Option.{none}
+use Rattle.std.specs.Prelude.{None}
 use Prim.Native.Nat.{ℕ, ◌<◌, ◌≤◌}
 use native.Mathlib.Omega.{arith}
 use Rattle.protocol.specs.declared.Action.{Action}
-use Rattle.protocol.specs.Names.{Drop, Release, last_rule, rule_of, proc_of}
+use Rattle.protocol.specs.declared.Proc.TheVariants.{Drop, Release}
+use Rattle.protocol.specs.Names.{last_rule, rule_of, proc_of}
 use Rattle.protocol.specs.Masks.{has_board}
 use Rattle.protocol.specs.Slices.{Table}
 use Rattle.protocol.specs.Cell.{Cell, live_mask, lock_mask, cell_of}
@@ -39,7 +40,7 @@ module _ (rule boards cells : ℕ) (t : Table) (a : Action) (quiet : NoOtherHold
   pub drop_not_live : a.code ≡ 6 → has_board (live_mask (cell_of boards cells t a.cell)) a.board ≡ false →
       ((answer rule boards cells t a).number ≡ 0) × (table_after rule boards cells t a ≡ t)
   unfolding seen_by
-  drop_not_live code was_not_live = unchanged (rw is_drop clean) (rw (is_drop, set_nothing (as_state x).c a.board none nil))
+  drop_not_live code was_not_live = unchanged (rw is_drop clean) (rw (is_drop, set_nothing (as_state x).c a.board None nil))
     where
       x : Cell
       x = cell_of boards cells t a.cell
@@ -47,7 +48,7 @@ module _ (rule boards cells : ℕ) (t : Table) (a : Action) (quiet : NoOtherHold
       is_drop : proc_of a ≡ Drop a.board
       is_drop = unfold proc_of in rw code
 
-      nil : (as_state x).c a.board ≡ none
+      nil : (as_state x).c a.board ≡ None
       nil = (nil_is boards x a.board).0 was_not_live
 
       clean : (as_state x).dirty a.board ≡ false

@@ -11,7 +11,10 @@ use lib.ListN.{length, get_or}
 use borrow.Author.Tests.{eqb-true}
 use Rattle.protocol.specs.declared.Action.{Action}
 use Rattle.protocol.specs.declared.Answer.{Answer}
-use Rattle.protocol.specs.Names.{Rule, Proc, Read, Write, Barrier, MtoC, CtoM, CtoC, Drop, Acquire, Release, rule_of, proc_of}
+use Rattle.protocol.specs.declared.Rule.{Rule}
+use Rattle.protocol.specs.declared.Proc.{Proc}
+use Rattle.protocol.specs.declared.Proc.TheVariants.{Read, Write, Barrier, MtoC, CtoM, CtoC, Drop, Acquire, Release}
+use Rattle.protocol.specs.Names.{rule_of, proc_of}
 use Rattle.protocol.specs.Slices.{slice_number, Table}
 use Rattle.protocol.specs.Cell.{Cell, main_value, copy_at, cell_of}
 use Rattle.protocol.specs.First.{Refusal, first, All}

@@ -9,7 +9,9 @@ use lib.Dec.{eqb, leb}
 use borrow.Author.Tests.{eqb-true, ltb-false, leb-true, le-leb, leb-false, not-false}
 use Rattle.protocol.specs.declared.Action.{Action}
 use Rattle.protocol.specs.declared.Answer.{Answer}
-use Rattle.protocol.specs.Names.{Rule, Proc, last_rule, last_code, rule_of, proc_of}
+use Rattle.protocol.specs.declared.Rule.{Rule}
+use Rattle.protocol.specs.declared.Proc.{Proc}
+use Rattle.protocol.specs.Names.{last_rule, last_code, rule_of, proc_of}
 use Rattle.protocol.specs.Slices.{Table, Places, cell_by_cell, every, sizes_good}
 use Rattle.protocol.specs.Cell.{Cell, cell_by, cell_of}
 use Rattle.protocol.specs.Soundness.{sound}

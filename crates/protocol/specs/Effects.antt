@@ -1,6 +1,8 @@
 -- What an accepted action answers and stores: "everything not named under Effect stays". Assumes nothing.
 use Rattle.std.specs.Prelude.{cond, List, [], ◌∷◌, ℕ, eqb, set}
-use Rattle.protocol.specs.Names.{Rule, Proc, Read, Write, Barrier, MtoC, CtoM, CtoC, Drop, Acquire, Release}
+use Rattle.protocol.specs.declared.Rule.{Rule}
+use Rattle.protocol.specs.declared.Proc.{Proc}
+use Rattle.protocol.specs.declared.Proc.TheVariants.{Read, Write, Barrier, MtoC, CtoM, CtoC, Drop, Acquire, Release}
 use Rattle.protocol.specs.Masks.{with_board, without_board}
 use Rattle.protocol.specs.Slices.{Slice, main, copies, masks, slice_number, Table, Places, cell_by_cell}
 use Rattle.protocol.specs.Cell.{Cell, main_value, copy_at, live_mask, dirty_mask, lock_mask}

@@ -1,7 +1,7 @@
 -- The whole-table check as its loops go, and what each way out has to show. Assumes nothing.
 use mathlib.Core.Path.{◌≡◌, refl, sym, ap, ◌∙◌}
 use mathlib.Core.Bool.{true, false, not}
-use mathlib.Core.Option.{Option, some, none}
+use Rattle.std.specs.Prelude.{Option, Some, None}
 use Prim.Native.Nat.{ℕ, suc, ◌+◌, ◌-◌, ◌<◌, ◌≤◌}
 use native.Mathlib.Omega.{arith}
 use Rattle.protocol.specs.Names.{rule_of}
@@ -29,11 +29,11 @@ module _ (rule boards cells : ℕ) (t : Table) where
   unfolding lowest_from
   left_step cell l s = rw (one_more cell l, s, next_cell cell)
 
-  pub left_stop : (cell : ℕ) → cell < cells → sound (rule_of rule) boards (cell_of boards cells t cell) ≡ false → left_from cell ≡ some cell
+  pub left_stop : (cell : ℕ) → cell < cells → sound (rule_of rule) boards (cell_of boards cells t cell) ≡ false → left_from cell ≡ Some cell
   unfolding lowest_from
   left_stop cell l s = rw (one_more cell l, s)
 
-  pub left_end : (cell : ℕ) → cells ≤ cell → left_from cell ≡ none
+  pub left_end : (cell : ℕ) → cells ≤ cell → left_from cell ≡ None
   unfolding lowest_from
   left_end cell l = let z : cells - cell ≡ 0 = omega arith in rw z
 
@@ -59,8 +59,8 @@ module _ (rule boards cells : ℕ) (t : Table) where
 
   number_found : (o : Option ℕ) → (answer_of (found_of o)).number ≡ 0
   unfolding answer_of found_of
-  number_found none = refl
-  number_found (some c) = refl
+  number_found None = refl
+  number_found (Some c) = refl
 
   pub found : sizes_good boards cells t ≡ true → rule ≤ 4 → (r : Checked) → r ≡ found_of (left_from 0) → Checks boards cells t rule r
   found s h r e =

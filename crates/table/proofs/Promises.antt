@@ -3,7 +3,7 @@ use mathlib.Core.Path.{◌≡◌, refl, sym, ap, ◌∙◌, fun_ext}
 use mathlib.Core.Logic.{◌≢◌, ◌↔◌, ◌⊎◌}
 use mathlib.Core.Bool.{true, false}
 use mathlib.Core.List.{List}
-use mathlib.Core.Option.{Option, some, none}
+use Rattle.std.specs.Prelude.{Option, Some, None}
 use Prim.Native.Nat.{ℕ, ◌<◌, ◌≤◌}
 use native.Mathlib.Omega.{arith}
 use lib.ListN.{length}
@@ -87,9 +87,9 @@ module _ (boards cells : ℕ) (t : Table) where
     unfolding answer_of found_of
     check_says_sound = (there, λ f. s.accepted (check_is_accepted.1 (f.0, f.1)) ∙ ap found_of ((check_sound rule boards cells t).1 f.2))
       where
-        go : (o : Option ℕ) → Sound ≡ found_of o → o ≡ none
-        go none d = refl
-        go (some c) d = absurd (not_both c d)
+        go : (o : Option ℕ) → Sound ≡ found_of o → o ≡ None
+        go None d = refl
+        go (Some c) d = absurd (not_both c d)
 
         there : r ≡ Sound → (sizes_good boards cells t ≡ true) × (rule ≤ 4) × AllSound rule boards cells t
         there e =
@@ -101,9 +101,9 @@ module _ (boards cells : ℕ) (t : Table) where
     unfolding answer_of found_of
     check_says_unsound c = (there, λ f. s.accepted (check_is_accepted.1 (f.0, f.1)) ∙ ap found_of ((check_unsound rule boards cells t c).1 f.2))
       where
-        go : (o : Option ℕ) → Unsound c ≡ found_of o → o ≡ some c
-        go none d = absurd (not_both c (sym d))
-        go (some b) d = cc
+        go : (o : Option ℕ) → Unsound c ≡ found_of o → o ≡ Some c
+        go None d = absurd (not_both c (sym d))
+        go (Some b) d = cc
 
         there : r ≡ Unsound c → (sizes_good boards cells t ≡ true) × (rule ≤ 4) × LowestUnsound rule boards cells t c
         there e =

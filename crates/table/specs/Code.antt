@@ -2,7 +2,8 @@
 use Rattle.std.specs.Prelude.{◌≡◌, Bool, cond, not, ◌&&◌, ◌||◌, List, ℕ, ◌+◌, ◌*◌, ◌^◌, ◌<◌, ◌≤◌, eqb, ltb, leb, length, get_or, set}
 use Rattle.std.specs.Int.Bits.{bit_and}
 use Rattle.std.specs.Int.Count.{ones}
-use Rattle.protocol.specs.Names.{Rule, rule_of, proc_of}
+use Rattle.protocol.specs.declared.Rule.{Rule}
+use Rattle.protocol.specs.Names.{rule_of, proc_of}
 use Rattle.protocol.specs.Masks.{has_board, with_board, lowest_board}
 use Rattle.protocol.specs.Slices.{Slice, main, copies, masks, Table, table_of, width}
 use Rattle.protocol.specs.Effects.{effect, value_of, stores_in}

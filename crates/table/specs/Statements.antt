@@ -1,6 +1,6 @@
 -- What the public functions promise: the whole result and the end contents of every lent slice, for all inputs. Assumes nothing.
 use Rattle.std.specs.Prelude.{◌≡◌, ◌≢◌, List, ℕ}
-use Rattle.std.proofs.Math.Option.{Option, some, none}
+use Rattle.std.specs.Prelude.{Option, Some, None}
 use Rattle.protocol.specs.declared.Action.{Action}
 use Rattle.protocol.specs.declared.Answer.{Answer}
 use Rattle.protocol.specs.Slices.{Slice, Table}
@@ -22,8 +22,8 @@ answer_of (Refused number) = record { number = number; value = 0 }
 
 -- the case of an accepted check, by its finding
 unfoldable pub found_of : Option ℕ → Checked
-found_of none = Sound
-found_of (some cell) = Unsound cell
+found_of None = Sound
+found_of (Some cell) = Unsound cell
 
 -- t is the table before the call, t' the one after it
 module _ (boards cells : ℕ) (t : Table) where
