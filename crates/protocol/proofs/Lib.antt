@@ -15,6 +15,7 @@ pub mod EffectExactly
 pub mod SoundKept
 pub mod FirstLaws
 pub mod NumberLaws
+pub mod ReplyLaws
 pub mod StepLaws
 pub mod Demand1
 pub mod RunLaws
