@@ -5,9 +5,13 @@ use Prim.Native.Nat.{ℕ, zero, suc, ◌+◌, ◌*◌, ◌/◌, ◌<◌, ◌≤�
 use native.Mathlib.Numerals.{add-one}
 use native.Mathlib.Omega.{arith}
 use lib.ListN.{length, get_or, drop, set, length-drop}
+use lib.Dec.{eqb}
+use Rattle.std.specs.List.{starts_with}
 use lib.Seq.{drop-cons, set_at, append_snoc}
-use borrow.Author.Tests.{le-ltb}
-use Rattle.sessions.specs.File.{rule_in, boards_in, cells_in, le32, values, starting_in, records_at}
+use borrow.Author.Tests.{le-ltb, eq-eqb, ne_eqb}
+use native.Mathlib.Decide.{ℕ_discrete}
+use Rattle.std.proofs.Math.Bool.{and-true}
+use Rattle.sessions.specs.File.{mark, marked, rule_in, boards_in, cells_in, le32, values, starting_in, records_at}
 use Rattle.sessions.specs.FileRefusals.{count_in}
 use Rattle.sessions.specs.declared.Head.{Head}
 use Rattle.sessions.specs.Statements.{HeadOf}
@@ -37,6 +41,20 @@ pub head_says : (file : List ℕ) (r : Head) → HeadOf file r → 9 ≤ length 
 head_says file r s h =
     let e = le-ltb (length file) 9 h in
     record { says_rule = s.rule_is ∙ rw e; says_boards = s.boards_is ∙ rw e; says_cells = s.cells_is ∙ rw e; says_from = s.from_is ∙ rw e; says_count = s.count_is ∙ rw e }
+
+flip : (m n : ℕ) → eqb m n ≡ eqb n m
+flip m n = elim (ℕ_discrete m n) [
+  | yes e ↦ rw (eq-eqb m n e, eq-eqb n m (sym e))
+  | no d ↦ rw (ne_eqb m n d, ne_eqb n m (λ e. d (sym e)))
+]
+
+-- a file that is long enough begins with the mark, byte by byte
+pub mark_leads : (file : List ℕ) → 3 ≤ length file → starts_with eqb file mark ≡ marked file
+unfolding marked
+mark_leads (a ∷ b ∷ c ∷ rest) h = rw (flip 67 a, flip 67 b, flip 83 c, and-true)
+mark_leads [] h = absurd (omega arith)
+mark_leads (a ∷ []) h = absurd (omega arith)
+mark_leads (a ∷ b ∷ []) h = absurd (omega arith)
 
 -- a slice that is filled from its start
 pub fill_more : (xs : List ℕ) (v : ℕ) (old : List ℕ) (n : ℕ) → length xs ≡ n → n < length old → set (xs ++ drop n old) n v ≡ (xs ++ (v ∷ [])) ++ drop (n + 1) old

@@ -15,8 +15,7 @@ use Rattle.protocol.proofs.InWords.{range_exactly, sizes_exactly}
 use Rattle.sessions.specs.File.{le16, marked, version_in, rule_in, boards_in, cells_in, records_at}
 use Rattle.sessions.specs.FileRefusals.{head_refusals, body_refusals, records_bad, body_bad, read_refusals, write_refusals, count_in, run_refusals}
 use Rattle.sessions.specs.FileWords.{InOrder, MarkBytes, VersionBytes, rule_byte, boards_byte, cells_bytes, Limits, Lengths, WholeRecords, Room}
-use Rattle.sessions.specs.declared.Report.{Report}
-use Rattle.sessions.specs.Statements.{Reads, Writes, Runs}
+use Rattle.sessions.specs.Statements.{Reads, Writes, Runs, ReadReply, RunReply}
 
 -- ---- one refusal after another
 
@@ -214,9 +213,8 @@ module _ (file : List ℕ) where
 
 -- ---- the three functions
 
-module _ (file old records : List ℕ) (number rule boards cells : ℕ) (starting : List ℕ)
-    (s : Reads file old records number rule boards cells starting) where
-  pub read_answers : InOrder number (9 ≤ length file) (MarkBytes file) (VersionBytes file)
+module _ (file old : List ℕ) (r : ReadReply) (starting : List ℕ) (s : Reads file old r starting) where
+  pub read_answers : InOrder r.number (9 ≤ length file) (MarkBytes file) (VersionBytes file)
       (Limits (boards_byte file) (cells_bytes file) × (length old ≡ cells_bytes file))
       (rule_byte file ≤ 4) (WholeRecords (9 + 4 * cells_bytes file) (length file)) (Unit {0})
   unfolding read_refusals head_refusals body_refusals le16
@@ -234,7 +232,7 @@ module _ (rule boards cells : ℕ) (starting records old : List ℕ) (r : Answer
       rw s.number_is (in_order nothing nothing nothing (starting_sizes boards cells (length starting)) (at_most rule 4)
       (whole_records (length records)) (at_most (records_at cells + length records) (length old)))
 
-module _ (file : List ℕ) (t : Table) (numbers values : List ℕ) (r : Report) (t' : Table) (numbers' values' : List ℕ)
+module _ (file : List ℕ) (t : Table) (numbers values : List ℕ) (r : RunReply) (t' : Table) (numbers' values' : List ℕ)
     (s : Runs file t numbers values r t' numbers' values') where
   pub run_answers : InOrder r.number (9 ≤ length file) (MarkBytes file) (VersionBytes file)
       (Limits (boards_byte file) (cells_bytes file) × Lengths (boards_byte file) (cells_bytes file) t)

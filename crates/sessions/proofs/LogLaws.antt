@@ -13,8 +13,7 @@ use Rattle.protocol.specs.Runs.{Line, log_by, log}
 use Rattle.sessions.specs.File.{rule_in, boards_in, cells_in, starting_in, records_in, action_at, actions, records_at}
 use Rattle.sessions.specs.FileRefusals.{count_in}
 use Rattle.sessions.specs.Run.{actions_of, log_of, no_line, line_of_record, record_of}
-use Rattle.sessions.specs.declared.Report.{Report}
-use Rattle.sessions.specs.Statements.{accepting, Runs}
+use Rattle.sessions.specs.Statements.{accepting, Runs, RunReply}
 use Rattle.sessions.proofs.RunLaws.{length_actions, length_log}
 
 -- ---- lines of a log
@@ -58,7 +57,7 @@ module _ (file : List ℕ) where
 
 -- ---- of a run that is not refused
 
-module _ (file : List ℕ) (t : Table) (numbers values : List ℕ) (r : Report) (t' : Table) (numbers' values' : List ℕ) (s : Runs file t numbers values r t' numbers' values') (ok : r.number ≡ 0) where
+module _ (file : List ℕ) (t : Table) (numbers values : List ℕ) (r : RunReply) (t' : Table) (numbers' values' : List ℕ) (s : Runs file t numbers values r t' numbers' values') (ok : r.number ≡ 0) where
   pub in_slice : (f : Line → ℕ) (old new : List ℕ) → new ≡ accepting r.number (map f (log_of file) ++ drop (count_in file) old) old → (i : ℕ) → i < count_in file → get_or new i 0 ≡ f (line_of_record file i)
   unfolding line_of_record
   in_slice f old new e i h = rw (e, eq-eqb r.number 0 ok) (get_d_front f (log_of file) (drop (count_in file) old) i (rw (logged file) h))

@@ -10,7 +10,7 @@ use Rattle.protocol.specs.declared.Answer.{Answer}
 use Rattle.protocol.specs.First.{first_number}
 use Rattle.sessions.specs.File.{Below, rule_in, boards_in, cells_in, starting_in, records_in, headed, file_of, records_at}
 use Rattle.sessions.specs.FileRefusals.{read_refusals, write_refusals}
-use Rattle.sessions.specs.Statements.{accepting, Reads, Writes, ReadAs}
+use Rattle.sessions.specs.Statements.{accepting, ReadReply, Reads, Writes, ReadAs}
 use Rattle.sessions.proofs.AcceptedLaws.{writable, readable}
 use Rattle.sessions.proofs.BytesLaws.{length_starting}
 use Rattle.sessions.proofs.WrittenLaws.{length_file}
@@ -70,44 +70,42 @@ when_accepted : {A : Type 0} (n : ℕ) (a b : A) → n ≡ 0 → accepting n a b
 when_accepted n a b e = rw (eq-eqb n 0 e)
 
 -- `read` accepted a file, and `write` was given what it gave and room enough: `out` starts with the file, and behind it is as it was
-pub read_then_write : (file old records : List ℕ) (number rule boards cells : ℕ) (starting : List ℕ) → Below 256 file →
-    Reads file old records number rule boards cells starting → number ≡ 0 →
-    (before : List ℕ) (r : Answer) (out : List ℕ) → length file ≤ length before → Writes rule boards cells starting records before r out →
+pub read_then_write : (file old : List ℕ) (p : ReadReply) (starting : List ℕ) → Below 256 file → Reads file old p starting → p.number ≡ 0 →
+    (before : List ℕ) (r : Answer) (out : List ℕ) → length file ≤ length before → Writes p.rule p.boards p.cells starting p.records before r out →
     (r.number ≡ 0) × (take (length file) out ≡ file) × (drop (length file) out ≡ drop (length file) before)
-read_then_write file old records number rule boards cells starting b p z before r out h w =
-    let e : first_number (read_refusals file (length old)) ≡ 0 = sym p.number_is ∙ z in
+read_then_write file old p starting b s z before r out h w =
+    let e : first_number (read_refusals file (length old)) ≡ 0 = sym s.number_is ∙ z in
     let m : length old ≡ cells_in file = ((readable file (length old)).0 e).sizes.matching in
     let g : first_number (read_refusals file (cells_in file)) ≡ 0 = ap (λ (k : ℕ). first_number (read_refusals file k)) (sym m) ∙ e in
-    let a1 : rule ≡ rule_in file = p.rule_is ∙ when_accepted number _ _ z in
-    let a2 : boards ≡ boards_in file = p.boards_is ∙ when_accepted number _ _ z in
-    let a3 : cells ≡ cells_in file = p.cells_is ∙ when_accepted number _ _ z in
-    let a4 : starting ≡ starting_in file = p.filled ∙ when_accepted number _ _ z in
-    let a5 : records ≡ records_in file = p.part ∙ when_accepted number _ _ z in
+    let a1 : p.rule ≡ rule_in file = s.rule_is ∙ when_accepted p.number _ _ z in
+    let a2 : p.boards ≡ boards_in file = s.boards_is ∙ when_accepted p.number _ _ z in
+    let a3 : p.cells ≡ cells_in file = s.cells_is ∙ when_accepted p.number _ _ z in
+    let a4 : starting ≡ starting_in file = s.filled ∙ when_accepted p.number _ _ z in
+    let a5 : p.records ≡ records_in file = s.part ∙ when_accepted p.number _ _ z in
     let n : r.number ≡ 0 = w.number_is ∙ rw (a1, a2, a3, a4, a5) (read_is_writable file (length before) g h) in
-    let f : file_of rule boards cells starting records ≡ file = rw (a1, a2, a3, a4, a5) (same_file file b g) in
+    let f : file_of p.rule p.boards p.cells starting p.records ≡ file = rw (a1, a2, a3, a4, a5) (same_file file b g) in
     let o : out ≡ file ++ drop (length file) before = w.bytes ∙ when_accepted r.number _ _ n ∙ ap (λ (l : List ℕ). l ++ drop (length l) before) f in
     (n, rw o (take_at file (drop (length file) before) (length file) refl), rw o (drop_at file (drop (length file) before) (length file) refl))
 
 -- `write` accepted a session, and `read` was given exactly the bytes of its file and a slice for its values: the session as it was
 module _ (rule boards cells : ℕ) (starting records before : List ℕ) (r : Answer) (out : List ℕ) where
   pub write_then_read : Below 4294967296 starting → Writes rule boards cells starting records before r out → r.number ≡ 0 →
-      (old records' : List ℕ) (number rule' boards' cells' : ℕ) (starting' : List ℕ) → length old ≡ cells →
-      Reads (take (records_at cells + length records) out) old records' number rule' boards' cells' starting' →
-      (number ≡ 0) × (rule' ≡ rule) × (boards' ≡ boards) × (cells' ≡ cells) × (starting' ≡ starting) × (records' ≡ records)
-  write_then_read b w z old records' number rule' boards' cells' starting' l p =
+      (old : List ℕ) (p : ReadReply) (starting' : List ℕ) → length old ≡ cells → Reads (take (records_at cells + length records) out) old p starting' →
+      (p.number ≡ 0) × (p.rule ≡ rule) × (p.boards ≡ boards) × (p.cells ≡ cells) × (starting' ≡ starting) × (p.records ≡ records)
+  write_then_read b w z old p starting' l s =
       let file = file_of rule boards cells starting records in
       let e : first_number (write_refusals rule boards cells (length starting) (length records) (length before)) ≡ 0 = sym w.number_is ∙ z in
       let m = ((writable rule boards cells (length starting) (length records) (length before)).0 e).sizes.matching in
       let n : length file ≡ records_at cells + length records = length_file rule boards cells starting records ∙ ap (λ (k : ℕ). records_at k + length records) m in
       let o : out ≡ file ++ drop (length file) before = w.bytes ∙ when_accepted r.number _ _ z in
       let t : take (records_at cells + length records) out ≡ file = rw o (take_at file (drop (length file) before) (records_at cells + length records) n) in
-      let q : Reads file old records' number rule' boards' cells' starting' = rw t at p in
-      let s = same_session rule boards cells starting records (length before) b e in
-      let y : number ≡ 0 = q.number_is ∙ rw l s.accepted in (
+      let q : Reads file old p starting' = rw t at s in
+      let same = same_session rule boards cells starting records (length before) b e in
+      let y : p.number ≡ 0 = q.number_is ∙ rw l same.accepted in (
         y,
-        q.rule_is ∙ when_accepted number _ _ y ∙ s.same_rule,
-        q.boards_is ∙ when_accepted number _ _ y ∙ s.same_boards,
-        q.cells_is ∙ when_accepted number _ _ y ∙ s.same_cells,
-        q.filled ∙ when_accepted number _ _ y ∙ s.same_starting,
-        q.part ∙ when_accepted number _ _ y ∙ s.same_records,
+        q.rule_is ∙ when_accepted p.number _ _ y ∙ same.same_rule,
+        q.boards_is ∙ when_accepted p.number _ _ y ∙ same.same_boards,
+        q.cells_is ∙ when_accepted p.number _ _ y ∙ same.same_cells,
+        q.filled ∙ when_accepted p.number _ _ y ∙ same.same_starting,
+        q.part ∙ when_accepted p.number _ _ y ∙ same.same_records,
       )

@@ -17,8 +17,7 @@ use Rattle.protocol.proofs.StepLaws.{accepted}
 use Rattle.protocol.proofs.Demand3Order.{same_answers, same_end}
 use Rattle.sessions.specs.File.{rule_in, boards_in, cells_in, starting_in}
 use Rattle.sessions.specs.Run.{actions_of, log_of, end_of, accepted_in, sum_below, stale_of, cell_of_line, Alike, told_in}
-use Rattle.sessions.specs.declared.Report.{Report}
-use Rattle.sessions.specs.Statements.{Runs}
+use Rattle.sessions.specs.Statements.{Runs, RunReply}
 use Rattle.sessions.proofs.RunPromises.{none_summed}
 
 -- ---- what is counted of a log, cell by cell
@@ -153,7 +152,7 @@ told_log rule boards cells t (a ∷ l) x y =
     ap (λ (ls : List Line). line_of rule boards cells t a ∷ ls) (told_log rule boards cells (table_after rule boards cells t a) l x y)
 
 -- the answer slices of a run tell its log
-told_all : (file : List ℕ) (t : Table) (numbers values : List ℕ) (r : Report) (t' : Table) (numbers' values' : List ℕ) →
+told_all : (file : List ℕ) (t : Table) (numbers values : List ℕ) (r : RunReply) (t' : Table) (numbers' values' : List ℕ) →
     Runs file t numbers values r t' numbers' values' → r.number ≡ 0 →
     told_in numbers' values' (actions_of file) ≡ log_of file
 unfolding log_of
@@ -163,9 +162,9 @@ told_all file t numbers values r t' numbers' values' s ok =
     let v = rw z at s.values_are in
     rw (n, v) (told_log (rule_in file) (boards_in file) (cells_in file) (fresh_table (boards_in file) (starting_in file)) (actions_of file) _ _)
 
-module _ (file : List ℕ) (t : Table) (numbers values : List ℕ) (r : Report) (t₁ : Table) (numbers₁ values₁ : List ℕ)
+module _ (file : List ℕ) (t : Table) (numbers values : List ℕ) (r : RunReply) (t₁ : Table) (numbers₁ values₁ : List ℕ)
     (s : Runs file t numbers values r t₁ numbers₁ values₁) (ok : r.number ≡ 0)
-    (other : List ℕ) (t' : Table) (numbers' values' : List ℕ) (r' : Report) (t₂ : Table) (numbers₂ values₂ : List ℕ)
+    (other : List ℕ) (t' : Table) (numbers' values' : List ℕ) (r' : RunReply) (t₂ : Table) (numbers₂ values₂ : List ℕ)
     (s' : Runs other t' numbers' values' r' t₂ numbers₂ values₂) (ok' : r'.number ≡ 0)
     (alike : Alike file other) where
   -- for each cell number, the two callers are told the same of the records that name it

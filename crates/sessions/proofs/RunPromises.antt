@@ -22,8 +22,7 @@ use Rattle.protocol.proofs.FreshStaysSound.{never_7, live_is_latest}
 use Rattle.sessions.specs.File.{rule_in, boards_in, cells_in, starting_in}
 use Rattle.sessions.specs.FileRefusals.{count_in}
 use Rattle.sessions.specs.Run.{actions_of, log_of, end_of, no_line, line_of_record, record_of, latest_before, count_below, sum_below, stale_in, stale_of, NoneStale}
-use Rattle.sessions.specs.declared.Report.{Report}
-use Rattle.sessions.specs.Statements.{Runs}
+use Rattle.sessions.specs.Statements.{Runs, RunReply}
 use Rattle.sessions.proofs.AcceptedLaws.{runnable}
 use Rattle.sessions.proofs.BytesLaws.{length_starting}
 use Rattle.sessions.proofs.LogLaws.{its_action, cut_at, in_slice}
@@ -117,7 +116,7 @@ module _ (file : List ℕ) where
 
 -- ---- of a run that is not refused
 
-module _ (file : List ℕ) (t : Table) (numbers values : List ℕ) (r : Report) (t' : Table) (numbers' values' : List ℕ) (s : Runs file t numbers values r t' numbers' values') (ok : r.number ≡ 0) where
+module _ (file : List ℕ) (t : Table) (numbers values : List ℕ) (r : RunReply) (t' : Table) (numbers' values' : List ℕ) (s : Runs file t numbers values r t' numbers' values') (ok : r.number ≡ 0) where
   -- demand 3: an accepted Read among the records answers the latest accepted write before it
   pub run_reads_latest : CoherentRule (rule_in file) → (i : ℕ) → i < count_in file → get_or numbers' i 0 ≡ 0 → (record_of file i).code ≡ 0 →
       get_or values' i 0 ≡ latest_before file i (record_of file i).cell

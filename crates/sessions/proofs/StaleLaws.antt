@@ -1,10 +1,17 @@
 -- Counts that grow from below, and the stale copies by the numbers in the slices. Assumes nothing.
-use mathlib.Core.Path.{◌≡◌, refl}
-use mathlib.Core.Bool.{Bool, true, cond}
-use Prim.Native.Nat.{ℕ, zero, suc, ◌+◌, ◌*◌, ◌<◌}
+use mathlib.Core.Path.{◌≡◌, refl, ◌∙◌}
+use mathlib.Core.List.{List}
+use mathlib.Core.Bool.{Bool, true, false, cond, ◌&&◌}
+use mathlib.Core.Logic.{◌≢◌}
+use Prim.Native.Nat.{ℕ, zero, suc, ◌+◌, ◌*◌, ◌/◌, ◌%◌, ◌^◌, ◌<◌, ◌≤◌}
 use native.Mathlib.Omega.{arith}
 use native.Mathlib.Numerals.{add-one}
-use lib.ListN.{get_or}
+use lib.ListN.{length, get_or}
+use Rattle.std.specs.List.{between}
+use Rattle.std.proofs.Math.Nat.{add-mul, mul-le-mul_right}
+use Rattle.std.proofs.lemmas.List.Edits.{length-between, get_or-between}
+use borrow.Author.Tests.{eq-eqb, ne_eqb}
+use Rattle.protocol.specs.Masks.{has_board}
 use Rattle.protocol.specs.Slices.{copies, masks, Table, sizes_good}
 use Rattle.table.proofs.ReadyLaws.{ready, copy_is, live_is}
 use Rattle.sessions.specs.Run.{is_stale, count_below, sum_below, stale_in}
@@ -17,6 +24,26 @@ pub sum_more : (n : ℕ) (f : ℕ → ℕ) → sum_below (n + 1) f ≡ sum_below
 unfolding sum_below
 sum_more n f = rw (add-one n) (omega arith)
 
+-- a board more, whose copy is stale or is not
+module _ (live latest : ℕ) (copy : ℕ → ℕ) where
+  abbrev pub stale_copies : (boards : ℕ) → ℕ
+  stale_copies k = count_below k (λ p. is_stale live p (copy p) latest)
+
+  pub one_stale : (n : ℕ) → live / 2 ^ n % 2 ≡ 1 → copy n ≢ latest → stale_copies (n + 1) ≡ stale_copies n + 1
+  unfolding has_board
+  one_stale n e d = rw (count_more n, e, ne_eqb (copy n) latest d)
+
+  pub not_live : (n : ℕ) → live / 2 ^ n % 2 ≢ 1 → stale_copies (n + 1) ≡ stale_copies n
+  unfolding has_board
+  not_live n d = rw (count_more n, ne_eqb (live / 2 ^ n % 2) 1 d) (omega arith)
+
+  pub up_to_date : (n : ℕ) → copy n ≡ latest → stale_copies (n + 1) ≡ stale_copies n
+  up_to_date n e = rw (count_more n, eq-eqb (copy n) latest e, never (has_board live n)) (omega arith)
+    where
+      never : (b : Bool) → cond {A = ℕ} (b && false) 1 0 ≡ 0
+      never true = refl
+      never false = refl
+
 count_same : (n : ℕ) (f g : ℕ → Bool) → ((p : ℕ) → p < n → f p ≡ g p) → count_below n f ≡ count_below n g
 unfolding count_below
 count_same zero f g e = refl
@@ -26,6 +53,17 @@ sum_same : (n : ℕ) (f g : ℕ → ℕ) → ((c : ℕ) → c < n → f c ≡ g 
 unfolding sum_below
 sum_same zero f g e = refl
 sum_same (suc n) f g e = rw (e n (omega arith), sum_same n f g (λ c l. e c (omega arith)))
+
+-- a cell's copies, cut out of the slice
+pub cell_cut : (boards cells cell : ℕ) (xs : List ℕ) (live latest : ℕ) → cell < cells → length xs ≡ cells * boards →
+    let cut = between (cell * boards) ((cell + 1) * boards) xs in
+    stale_copies live latest (λ p. get_or cut p 0) (length cut) ≡ stale_copies live latest (λ p. get_or xs (cell * boards + p) 0) boards
+cell_cut boards cells cell xs live latest h n =
+    let to = (cell + 1) * boards in
+    let e : to ≡ cell * boards + boards = add-mul cell 1 boards ∙ omega arith in
+    let m : to ≤ cells * boards = mul-le-mul_right boards (omega arith) in
+    let l : length (between (cell * boards) to xs) ≡ boards = length-between xs (cell * boards) to (omega arith) ∙ omega arith in
+    rw l (count_same boards _ _ (λ p k. rw (get_or-between xs (cell * boards) to p 0 (omega arith))))
 
 pub by_slices : (boards cells : ℕ) (t : Table) (latest : ℕ → ℕ) → sizes_good boards cells t ≡ true →
     sum_below cells (λ c. count_below boards (λ p. is_stale (get_or (t masks) (c * 3) 0) p (get_or (t copies) (c * boards + p) 0) (latest c))) ≡ stale_in boards cells t latest

@@ -7,7 +7,9 @@ use native.Mathlib.Omega.{arith}
 use native.Mathlib.Nat.{add-zero}
 use lib.ListN.{length, get_or, take, drop, set, length-append, take-append-drop}
 use lib.Seq.{drop-cons, set_at, length-take-le, take-suc, take_at, drop-append-add, drop-drop, sets, sets-eq}
-use Rattle.sessions.specs.File.{four, packed, headed, file_of, records_at}
+use Rattle.std.specs.Int.{w16, w32, to_le_bytes}
+use Rattle.std.proofs.Common.{Fits, ◌^◌, ◌/◌, ◌%◌}
+use Rattle.sessions.specs.File.{mark, two, four, packed, headed, file_of, records_at}
 use Rattle.sessions.specs.Written.{written}
 
 pub written_none : (at : ℕ) (old : List ℕ) → old ≡ written [] at old
@@ -29,33 +31,11 @@ written_more ds es at old h =
     ∙ ap (λ (k : ℕ). drop k old) s in
     rw (w, t, d) (simp append_assoc)
 
--- one byte behind a run
-pub write_one : (ds : List ℕ) (v at : ℕ) (old : List ℕ) → at + length ds < length old → set (written ds at old) (at + length ds) v ≡ written (ds ++ (v ∷ [])) at old
-unfolding written
-write_one ds v at old h =
-    let n : length (take at old ++ ds) ≡ at + length ds = rw (length-append, length-take-le at old (omega arith)) in
-    let e : at + (length ds + 1) ≡ suc (at + length ds) = omega arith in
-    rw (
-      drop-cons old (at + length ds) 0 h,
-      ← append_assoc (take at old) ds (get_or old (at + length ds) 0 ∷ drop (suc (at + length ds)) old),
-      set_at (take at old ++ ds) (get_or old (at + length ds) 0) (drop (suc (at + length ds)) old) v (at + length ds) n,
-      length-append,
-      e,
-    )
-    (simp append_assoc)
-
--- stores in a row
-pub stores : (vs : List ℕ) (at : ℕ) (old : List ℕ) → at + length vs ≤ length old → sets old at vs ≡ written vs at old
-unfolding written
-stores vs at old h = sets-eq vs old at h ∙ append_assoc (take at old) vs (drop (at + length vs) old)
-
-pub put_four : (a b c d at : ℕ) (old : List ℕ) → at + 4 ≤ length old →
-    set (set (set (set old at a) (at + 1) b) (at + 2) c) (at + 3) d ≡ written (a ∷ b ∷ c ∷ d ∷ []) at old
-put_four a b c d at old h =
-    let e1 : at + 1 ≡ suc at = omega arith in
-    let e2 : at + 2 ≡ suc (suc at) = omega arith in
-    let e3 : at + 3 ≡ suc (suc (suc at)) = omega arith in
-    rw (e1, e2, e3) (stores (a ∷ b ∷ c ∷ d ∷ []) at old h)
+-- a value's four bytes, as std says them
+pub four_stored : (x : ℕ) → Fits w32 x → to_le_bytes w32 x ≡ four x
+four_stored x h =
+    let e : x / 16777216 % 256 ≡ x / 16777216 = omega (arith, h.fits) in
+    rw e
 
 pub length_packed : (xs : List ℕ) → length (packed xs) ≡ 4 * length xs
 unfolding packed
@@ -71,18 +51,20 @@ packed_suc : (xs : List ℕ) (i : ℕ) → i < length xs → packed (take (i + 1
 unfolding packed
 packed_suc xs i h = rw (add-one, take-suc xs i 0 h, packed_append)
 
--- one more of a list: four bytes of a value, or a byte
-module _ (xs : List ℕ) (i at : ℕ) (old : List ℕ) (h : i < length xs) where
-  pub one_more_value : at + 4 * length xs ≤ length old →
-      written (four (get_or xs i 0)) (at + 4 * i) (written (packed (take i xs)) at old) ≡ written (packed (take (i + 1) xs)) at old
-  one_more_value k =
-      let n : length (packed (take i xs)) ≡ 4 * i = length_packed (take i xs) ∙ ap (λ (j : ℕ). 4 * j) (length-take-le i xs (omega arith)) in
-      rw (packed_suc xs i h, ← n) (written_more (packed (take i xs)) (four (get_or xs i 0)) at old (omega arith))
+-- one more value of a list
+pub one_more_value : (xs : List ℕ) (i at : ℕ) (old : List ℕ) → i < length xs → at + 4 * length xs ≤ length old →
+    written (four (get_or xs i 0)) (at + 4 * i) (written (packed (take i xs)) at old) ≡ written (packed (take (i + 1) xs)) at old
+one_more_value xs i at old h k =
+    let n : length (packed (take i xs)) ≡ 4 * i = length_packed (take i xs) ∙ ap (λ (j : ℕ). 4 * j) (length-take-le i xs (omega arith)) in
+    rw (packed_suc xs i h, ← n) (written_more (packed (take i xs)) (four (get_or xs i 0)) at old (omega arith))
 
-  pub one_more_byte : at + length xs ≤ length old → set (written (take i xs) at old) (at + i) (get_or xs i 0) ≡ written (take (i + 1) xs) at old
-  one_more_byte k =
-      let n : length (take i xs) ≡ i = length-take-le i xs (omega arith) in
-      rw (add-one, take-suc xs i 0 h) (ap (λ (j : ℕ). set (written (take i xs) at old) (at + j) (get_or xs i 0)) (sym n) ∙ write_one (take i xs) (get_or xs i 0) at old (omega arith))
+-- the mark, the version, rule and P, and N, one behind the other
+pub written_header : (rule boards cells : ℕ) (old : List ℕ) → cells ≤ 512 → 9 ≤ length old →
+    written (to_le_bytes w16 cells) 7 (written (rule ∷ boards ∷ []) 5 (written (to_le_bytes w16 1) 3 (written mark 0 old))) ≡ written (headed rule boards cells) 0 old
+unfolding headed
+written_header rule boards cells old h k =
+    let e : cells / 256 % 256 ≡ cells / 256 = omega arith in
+    rw (e, written_more mark (two 1) 0 old (omega arith), written_more (mark ++ two 1) (rule ∷ boards ∷ []) 0 old (omega arith), written_more (mark ++ two 1 ++ (rule ∷ boards ∷ [])) (two cells) 0 old (omega arith))
 
 pub length_file : (rule boards cells : ℕ) (starting records : List ℕ) → length (file_of rule boards cells starting records) ≡ records_at (length starting) + length records
 unfolding file_of headed

@@ -1,32 +1,26 @@
 // The mark, numbers in a slice of bytes, little-endian, where the records begin, and the part of a slice from a place on.
-ghost use Rattle.std.specs.Prelude.{◌≡◌, ◌+◌, ◌*◌, ◌<◌, ◌≤◌, length, get_or, drop};
+ghost use Rattle.std.specs.Prelude.{◌≡◌, ◌+◌, ◌*◌, ◌<◌, ◌≤◌, length, drop};
 ghost use Rattle.sessions.specs.File.{le16, le32, values, records_at};
 
 // The mark of a session file: its first three bytes.
 pub const MARK: [u8; 3] = *b"CCS";
 
-// The byte at a place.
-pub fn byte(s: &[u8], at: usize) -> u32
-    requires { at < length s.now }
-    ensures { (result ≡ get_or s.now at 0) × (result < 256) }
-{
-    s[at] as u32
-}
-
 // The number of two bytes at a place.
+#[tactic(auto, unfolding(crate::specs::File::le16))]
 pub fn read16(s: &[u8], at: usize) -> u16
     requires { at + 2 ≤ length s.now }
     ensures { result ≡ le16 s.now at }
 {
-    (byte(s, at) + byte(s, at + 1) * 256) as u16
+    u16::from_le_bytes([s[at], s[at + 1]])
 }
 
 // The number of four bytes at a place.
+#[tactic(auto, unfolding(crate::specs::File::le32))]
 pub fn read32(s: &[u8], at: usize) -> u32
     requires { at + 4 ≤ length s.now }
     ensures { result ≡ le32 s.now at }
 {
-    byte(s, at) + byte(s, at + 1) * 256 + byte(s, at + 2) * 65536 + byte(s, at + 3) * 16777216
+    u32::from_le_bytes([s[at], s[at + 1], s[at + 2], s[at + 3]])
 }
 
 // Fills a slice with the numbers of four bytes from a place on.
@@ -34,10 +28,8 @@ pub fn read_values(s: &[u8], at: usize, out: &mut [u32])
     requires { at + 4 * length out.old ≤ length s.now }
     ensures { out.new ≡ values s.now at (length out.old) }
 {
-    let mut i = 0;
-    while i < out.len() {
-        out[i] = read32(s, at + 4 * i);
-        i += 1;
+    for (i, value) in out.iter_mut().enumerate() {
+        *value = read32(s, at + 4 * i);
     }
 }
 
@@ -53,5 +45,5 @@ pub fn records_at(cells: usize) -> usize
 pub fn part_from<'a>(s: &'a [u8], from: usize) -> &'a [u8]
     ensures { result.now ≡ drop from s.now }
 {
-    if from <= s.len() { &s[from..] } else { &s[..0] }
+    s.get(from..).unwrap_or(&[])
 }

@@ -1,32 +1,33 @@
 // The records of a session: each one an action, performed in order.
-ghost use Rattle.std.specs.Prelude.{◌≡◌, ◌+◌, ◌<◌, ◌≤◌, length};
+ghost use Rattle.std.specs.Prelude.{◌≡◌, ◌<◌, length};
+ghost use Rattle.protocol.specs.Replies.{answer_of};
 ghost use Rattle.protocol.specs.Slices.{table_of};
 ghost use Rattle.sessions.specs.File.{action_at, actions_in};
 ghost use Rattle.sessions.specs.Code.{Noted, Prepared, Ran};
 
-use crate::bytes;
-use protocol::Action;
+use crate::Head;
+use protocol::{Action, Answer, Refused};
 
-// The record at a place, as an action.
-fn action_at(s: &[u8], at: usize) -> Action
-    requires { at + 9 ≤ length s.now }
-    ensures { result ≡ action_at s.now at }
+// A record as an action.
+fn action_of(record: &[u8; 9]) -> Action
+    ensures { result ≡ action_at record.now 0 }
 {
+    let [code, board, to, cell_low, cell_high, v0, v1, v2, v3] = *record;
     Action {
-        code: s[at],
-        board: s[at + 1],
-        to: s[at + 2],
-        cell: bytes::read16(s, at + 3),
-        value: bytes::read32(s, at + 5),
+        code,
+        board,
+        to,
+        cell: u16::from_le_bytes([cell_low, cell_high]),
+        value: u32::from_le_bytes([v0, v1, v2, v3]),
     }
 }
 
 // 1 for an accepted action, else 0; an accepted write becomes the latest of its cell.
-fn note(action: Action, number: u8, latest: &mut [u32]) -> usize
-    requires { number ≡ 0 → action.cell < length latest.old }
-    ensures { Noted action number latest.old result latest.new }
+fn note(action: Action, told: Result<u32, Refused>, latest: &mut [u32]) -> usize
+    requires { (answer_of told).number ≡ 0 → action.cell < length latest.old }
+    ensures { Noted action (answer_of told) latest.old result latest.new }
 {
-    if number != protocol::ACCEPTED {
+    if told.is_err() {
         return 0;
     }
     if action.code == 1 {
@@ -37,9 +38,7 @@ fn note(action: Action, number: u8, latest: &mut [u32]) -> usize
 
 // Performs the records in order: their answers, the table after the last, the latest accepted writes, and how many were accepted.
 pub fn step_all(
-    rule: u8,
-    boards: usize,
-    cells: usize,
+    head: Head,
     records: &[u8],
     main: &mut [u32],
     copies: &mut [u32],
@@ -48,19 +47,18 @@ pub fn step_all(
     values: &mut [u32],
     latest: &mut [u32],
 ) -> usize
-    requires { Prepared cells records.now numbers.old values.old latest.old }
-    ensures { Ran rule boards cells (table_of main.old copies.old masks.old) numbers.old values.old latest.old (actions_in records.now) result (table_of main.new copies.new masks.new) numbers.new values.new latest.new }
+    requires { Prepared head.cells records.now numbers.old values.old latest.old }
+    ensures { Ran head.rule head.boards head.cells (table_of main.old copies.old masks.old) numbers.old values.old latest.old (actions_in records.now) result (table_of main.new copies.new masks.new) numbers.new values.new latest.new }
 {
-    let count = records.len() / 9;
+    let (records, _) = records.as_chunks::<9>();
     let mut accepted = 0;
-    let mut i = 0;
-    while i < count {
-        let action = action_at(records, 9 * i);
-        let told = table::step(rule, boards, cells, main, copies, masks, action);
-        numbers[i] = told.number;
-        values[i] = told.value;
-        accepted += note(action, told.number, latest);
-        i += 1;
+    for (i, record) in records.iter().enumerate() {
+        let action = action_of(record);
+        let told = table::step(head.rule, head.boards, head.cells, main, copies, masks, action);
+        accepted += note(action, told, latest);
+        let answer = Answer::from(told);
+        numbers[i] = answer.number;
+        values[i] = answer.value;
     }
     accepted
 }

@@ -1,24 +1,20 @@
 -- `write` judges everything before it stores the header, the values and the records. Assumes nothing.
 use Rattle.std.proofs.Common.{sym, ◌∙◌, arith}
 use Rattle.sessions.proofs.AcceptedLaws.{writable}
-use Rattle.sessions.proofs.WriteLaws.{refused, accepted}
+use Rattle.sessions.proofs.WriteLaws.{accepted}
 use Rattle.sessions.proofs.write.Goals as goal
 
-pub returns-then-number-ne-ACCEPTED : goal.returns-then-number-ne-ACCEPTED
-returns-then-number-ne-ACCEPTED c = refused _ _ _ _ _ _ _ c.refusal-number.ensures c.if-number-ne-ACCEPTED.true
-
 pub put_header-requires : goal.put_header-requires
-put_header-requires c = let f = (writable _ _ _ _ _ _).0 (sym c.refusal-number.ensures ∙ c.if-number-ne-ACCEPTED.false) in (omega (arith, f.roomy), f.sizes.few_boards, f.sizes.few_cells)
+put_header-requires c = let f = (writable _ _ _ _ _ _).0 (sym c.in_ok-judge_to_write.ensures) in (omega (arith, f.roomy), f.sizes.few_boards, f.sizes.few_cells)
 
 pub put_values-requires : goal.put_values-requires
-put_values-requires c = let f = (writable _ _ _ _ _ _).0 (sym c.refusal-number.ensures ∙ c.if-number-ne-ACCEPTED.false) in omega (arith, f.roomy, f.sizes.matching, c.put_header.auto.out)
+put_values-requires c = let f = (writable _ _ _ _ _ _).0 (sym c.in_ok-judge_to_write.ensures) in omega (arith, f.roomy, f.sizes.matching, c.put_header.auto.out)
 
 pub records_at-requires : goal.records_at-requires
-records_at-requires c = omega (arith, ((writable _ _ _ _ _ _).0 (sym c.refusal-number.ensures ∙ c.if-number-ne-ACCEPTED.false)).sizes.few_cells)
+records_at-requires c = omega (arith, ((writable _ _ _ _ _ _).0 (sym c.in_ok-judge_to_write.ensures)).sizes.few_cells)
 
 pub put_bytes-requires : goal.put_bytes-requires
-put_bytes-requires c = let f = (writable _ _ _ _ _ _).0 (sym c.refusal-number.ensures ∙ c.if-number-ne-ACCEPTED.false) in omega (arith, f.roomy, c.put_header.auto.out, c.put_values.auto.out, c.records_at.ensures)
+put_bytes-requires c = let f = (writable _ _ _ _ _ _).0 (sym c.in_ok-judge_to_write.ensures) in omega (arith, f.roomy, c.put_header.auto.out, c.put_values.auto.out, c.records_at.ensures)
 
 pub returns : goal.returns
-returns c =
-    accepted _ _ _ _ _ _ _ c.refusal-number.ensures c.if-number-ne-ACCEPTED.false _ _ _ c.put_header.ensures c.put_values.ensures (c.put_bytes.ensures ∙ rw c.records_at.ensures)
+returns c = accepted _ _ _ _ _ _ c.in_ok-judge_to_write.ensures _ _ _ c.put_header.ensures c.put_values.ensures (c.put_bytes.ensures ∙ rw c.records_at.ensures)

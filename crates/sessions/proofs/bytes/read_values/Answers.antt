@@ -1,5 +1,5 @@
 -- `read_values` fills the slice. Assumes nothing.
-use Rattle.std.proofs.Common.{◌≡◌, ◌<◌, length, length-set, refl, ◌∙◌, arith}
+use Rattle.std.proofs.Common.{◌≡◌, ◌<◌, length, refl, ◌∙◌, arith}
 use mathlib.Core.List.{append-nil}
 use lib.Seq.{drop-length}
 use Rattle.sessions.specs.File.{values}
@@ -8,15 +8,15 @@ use Rattle.sessions.proofs.bytes.read_values.Goals as goal
 
 pub loop-i-init : goal.loop-i-init
 unfolding values
-loop-i-init c = (omega arith, refl, refl)
+loop-i-init c = refl
 
 pub loop-i-preserved : goal.loop-i-preserved
 loop-i-preserved c =
     let l = c.loop-i in
     let h : l.i < length c.args.out.now = omega arith in
-    (omega arith, simp length-set l.invariant.1, rw (l.invariant.2, c.read32.ensures) (values_more c.args.s.now c.args.at l.i c.args.out.now h))
+    rw (l.invariant, c.read32.ensures) (values_more c.args.s.now c.args.at l.i c.args.out.now h)
 
 pub returns : goal.returns
 returns c =
     let h : c.loop-i.i ≡ length c.args.out.now = omega arith in
-    c.loop-i.invariant.2 ∙ rw (h, drop-length) (append-nil _)
+    c.loop-i.invariant ∙ rw (h, drop-length) (append-nil _)

@@ -1,19 +1,19 @@
 -- `put_values` stores each value in four bytes, one behind the other. Assumes nothing.
-use Rattle.std.proofs.Common.{◌≡◌, length, refl, ◌∙◌, arith}
+use Rattle.std.proofs.Common.{◌≡◌, length, ◌∙◌, arith}
 use lib.Seq.{take-length}
 use Rattle.sessions.specs.File.{packed}
-use Rattle.sessions.proofs.WrittenLaws.{written_none, one_more_value}
+use Rattle.sessions.proofs.WrittenLaws.{written_none, four_stored, one_more_value}
 use Rattle.sessions.proofs.writer.put_values.Goals as goal
 
 pub loop-i-init : goal.loop-i-init
 unfolding packed
-loop-i-init c = (omega arith, refl, written_none _ _)
+loop-i-init c = written_none _ _
 
 pub loop-i-preserved : goal.loop-i-preserved
 loop-i-preserved c =
     let l = c.loop-i in
-    let p = c.put_value in
-    (omega arith, p.auto.out ∙ l.invariant.1, p.ensures ∙ rw l.invariant.2 (one_more_value _ _ _ _ c.loop-i-test.true c.requires))
+    c.put_bytes.ensures
+    ∙ rw (l.invariant, c.to_le_bytes.ensures, four_stored _ (c.type_inv.xs l.i)) (one_more_value _ _ _ _ c.loop-i-test.true c.requires)
 
 pub returns : goal.returns
-returns c = let h : c.loop-i.i ≡ length c.args.xs.now = omega arith in c.loop-i.invariant.2 ∙ rw (h, take-length)
+returns c = let h : c.loop-i.i ≡ length c.args.xs.now = omega arith in c.loop-i.invariant ∙ rw (h, take-length)
