@@ -1,11 +1,14 @@
 -- The digits of a number: its tenth's, and the last one; how many there are at most. Assumes nothing.
 use mathlib.Core.Path.{◌≡◌, refl, ap, sym, ◌∙◌}
+use mathlib.Core.Bool.{cond}
 use mathlib.Core.List.{List, [], ◌∷◌, ◌++◌}
-use Prim.Native.Nat.{ℕ, zero, suc, ◌+◌, ◌*◌, ◌/◌, ◌%◌, ◌<◌, ◌≤◌}
+use Prim.Native.Nat.{ℕ, zero, suc, ◌+◌, ◌*◌, ◌^◌, ◌/◌, ◌%◌, ◌<◌, ◌≤◌}
 use native.Mathlib.Omega.{arith}
 use native.Mathlib.Decide.{dec_lt}
 use borrow.Author.Tests.{lt-ltb, le-ltb}
+use lib.Dec.{ltb}
 use lib.ListN.{length, length-append}
+use Rattle.std.proofs.Math.Nat.{pow-succ'}
 use Rattle.listing.specs.Decimal.{digits_in, digits}
 
 pub small_in : (f n : ℕ) → n < 10 → digits_in f n ≡ (48 + n) ∷ []
@@ -44,21 +47,56 @@ length_small n h = ap length (small n h)
 pub length_more : (n : ℕ) → 10 ≤ n → length (digits n) ≡ length (digits (n / 10)) + 1
 length_more n h = ap length (more n h) ∙ simp length-append
 
--- how many digits there are at most
-abbrev pub power : ℕ → ℕ
-power zero = 10
-power (suc k) = 10 * power k
+-- the digits before the last one
+unfoldable pub front : ℕ → List ℕ
+front n = cond (ltb n 10) [] (digits (n / 10))
 
-pub fewer : (k n : ℕ) → n < power k → length (digits n) ≤ suc k
+pub front_small : (n : ℕ) → n < 10 → front n ≡ []
+unfolding front
+front_small n h = rw (lt-ltb _ _ h)
+
+pub front_more : (n : ℕ) → 10 ≤ n → front n ≡ digits (n / 10)
+unfolding front
+front_more n h = rw (le-ltb _ _ h)
+
+pub digits_split : (n : ℕ) → digits n ≡ front n ++ ((48 + n % 10) ∷ [])
+digits_split n = go (dec_lt n 10)
+  where
+    go : Dec (n < 10) → digits n ≡ front n ++ ((48 + n % 10) ∷ [])
+    go (yes a) = let e : n % 10 ≡ n = omega arith in rw (small n a, front_small n a, e)
+    go (no a) = rw (more n (omega arith), front_more n (omega arith))
+
+pub length_split : (n : ℕ) → length (digits n) ≡ length (front n) + 1
+length_split n = ap length (digits_split n) ∙ simp length-append
+
+-- how many digits there are: at most, and in all
+pub fewer : (k n : ℕ) → n < 10 * 10 ^ k → length (digits n) ≤ suc k
 fewer zero n h = rw (small n h) (omega arith)
 fewer (suc k) n h = go (fewer k (n / 10)) (dec_lt n 10)
   where
-    go : (n / 10 < power k → length (digits (n / 10)) ≤ suc k) → Dec (n < 10) → length (digits n) ≤ suc (suc k)
+    go : (n / 10 < 10 * 10 ^ k → length (digits (n / 10)) ≤ suc k) → Dec (n < 10) → length (digits n) ≤ suc (suc k)
     go r (yes a) = rw (small n a) (omega arith)
     go r (no a) =
         let big : 10 ≤ n = omega arith in
-        let q : length (digits (n / 10)) ≤ suc k = r (omega (arith, h)) in
+        let q : length (digits (n / 10)) ≤ suc k = r (omega (arith, h, pow-succ' 10 k)) in
         omega (arith, length_more n big)
+
+positive : (k : ℕ) → 0 < 10 ^ k
+positive zero = omega arith
+positive (suc k) = omega (arith, pow-succ' 10 k, positive k)
+
+at_least : (k n : ℕ) → 10 ^ k ≤ n → k < length (digits n)
+at_least zero n h = go (dec_lt n 10)
+  where
+    go : Dec (n < 10) → 0 < length (digits n)
+    go (yes a) = omega (arith, length_small n a)
+    go (no a) = omega (arith, length_more n (omega arith))
+at_least (suc k) n h =
+    let big : 10 ≤ n = omega (arith, h, pow-succ' 10 k, positive k) in
+    omega (arith, length_more n big, at_least k (n / 10) (omega (arith, h, pow-succ' 10 k)))
+
+pub counted : (k n : ℕ) → 10 ^ k ≤ n → n < 10 * 10 ^ k → length (digits n) ≡ k + 1
+counted k n h l = omega (arith, at_least k n h, fewer k n l)
 
 pub few_digits : (n : ℕ) → n < 18446744073709551616 → length (digits n) ≤ 20
 few_digits n h = fewer 19 n (omega arith)

@@ -2,7 +2,7 @@
 use mathlib.Core.Path.{◌≡◌, refl, ap, sym, ◌∙◌}
 use mathlib.Core.Bool.{Bool, true, false, cond, not, ◌||◌}
 use mathlib.Core.List.{List}
-use Prim.Native.Nat.{ℕ, ◌+◌, ◌-◌, ◌*◌, ◌<◌, ◌≤◌}
+use Prim.Native.Nat.{ℕ, min, ◌+◌, ◌-◌, ◌*◌, ◌<◌, ◌≤◌}
 use native.Mathlib.Omega.{arith}
 use native.Mathlib.Decide.{dec_lt}
 use native.Mathlib.Nat.{mul-le-mul_left}
@@ -15,17 +15,21 @@ use Rattle.protocol.specs.First.{first_number}
 use Rattle.protocol.specs.Slices.{Slice, main, copies, masks, Table, table_of, width, in_range, sizes_good}
 use Rattle.protocol.proofs.Booleans.{clash, or_right}
 use Rattle.protocol.proofs.InWords.{range_exactly, sizes_exactly}
-use Rattle.sessions.specs.File.{marked, version_in, rule_in, boards_in, cells_in, action_at, records_at}
+use Rattle.sessions.specs.File.{Below, marked, version_in, rule_in, boards_in, cells_in, action_at, records_at}
 use Rattle.sessions.specs.FileRefusals.{head_refusals, body_refusals, records_bad, body_bad, read_refusals, count_in, run_refusals}
 use Rattle.sessions.specs.Run.{line_of_record}
-use Rattle.sessions.specs.Statements.{HeadOf, Runs}
-use Rattle.sessions.specs.declared.Report.{Report}
+use Rattle.sessions.specs.Statements.{HeadOf, RunReply, Runs}
 use Rattle.sessions.specs.declared.Head.{Head}
 use Rattle.sessions.proofs.AcceptedLaws.{readable, few_records}
 use Rattle.sessions.proofs.BytesLaws.{head_says}
 use Rattle.sessions.proofs.LogLaws.{logged, its_action, in_slice}
 use Rattle.listing.specs.Listing.{refusal_of}
-use Rattle.listing.specs.Code.{RunTold, Lent, Sized}
+use Rattle.listing.specs.Code.{Told}
+use Rattle.listing.proofs.Room.{run_has_room}
+
+-- a table of the file's sizes
+abbrev pub Sized : (file : List ℕ) → Table → Type 0
+Sized file t = 9 ≤ length file → sizes_good (boards_in file) (cells_in file) t ≡ in_range (boards_in file) (cells_in file)
 
 -- ---- the refusals
 
@@ -64,66 +68,62 @@ module _ (file : List ℕ) (t : Table) (numbers values : ℕ) (fits : Sized file
 
 -- ---- what is lent
 
-module _ (file : List ℕ) (r : Head) (s : HeadOf file r) where
-  pub out_of_range : in_range r.boards r.cells ≡ false → Lent file 0 0
-  out_of_range h = record {
-    few_boards = omega arith;
-    few_cells = omega arith;
-    right = λ l e. let said = head_says file r s l in absurd (clash e (rw (said.says_boards, said.says_cells) at h));
-  }
+module _ (file : List ℕ) (head : Head) (s : HeadOf file head) (m k w : List ℕ) (a : length m ≡ min head.cells 512) (b : length k ≡ min head.cells 512 * min head.boards 16) (c : length w ≡ min head.cells 512 * 3) where
+  lengths : min head.boards 16 ≡ boards_in file → min head.cells 512 ≡ cells_in file → (part : Slice) → length (table_of m k w part) ≡ cells_in file * width (boards_in file) part
+  lengths e f main = unfold width in omega arith
+  lengths e f copies = unfold width in rw (e, f) at b
+  lengths e f masks = unfold width in rw f at c
 
-  pub when_in_range : in_range r.boards r.cells ≡ true → Lent file r.boards r.cells
-  when_in_range h = let range = (range_exactly r.boards r.cells).0 h in record { few_boards = range.0.1; few_cells = range.1.1; right = λ l e. let said = head_says file r s l in (said.says_boards, said.says_cells) }
+  pub sized : Sized file (table_of m k w)
+  sized long = go (in_range (boards_in file) (cells_in file)) refl
+    where
+      go : (x : Bool) → in_range (boards_in file) (cells_in file) ≡ x → sizes_good (boards_in file) (cells_in file) (table_of m k w) ≡ in_range (boards_in file) (cells_in file)
+      go false e = unfold sizes_good in rw e
+      go true e =
+          let range = (range_exactly (boards_in file) (cells_in file)).0 e in
+          let said = head_says file head s long in
+          (sizes_exactly (boards_in file) (cells_in file) (table_of m k w)).1 (range, lengths (omega (arith, said.says_boards, range.0.1)) (omega (arith, said.says_cells, range.1.1))) ∙ sym e
 
-pub lengths : (boards cells : ℕ) (m k w : List ℕ) → length m ≡ cells → length k ≡ cells * boards → length w ≡ cells * 3 → (s : Slice) → length (table_of m k w s) ≡ cells * width boards s
-lengths boards cells m k w a b c main = unfold width in omega arith
-lengths boards cells m k w a b c copies = unfold width in b
-lengths boards cells m k w a b c masks = unfold width in c
-
-pub fitting : (file : List ℕ) (boards cells : ℕ) → Lent file boards cells → (t : Table) → ((s : Slice) → length (t s) ≡ cells * width boards s) → Sized file t
-fitting file boards cells l t sized h = go (in_range (boards_in file) (cells_in file)) refl
-  where
-    go : (x : Bool) → in_range (boards_in file) (cells_in file) ≡ x → sizes_good (boards_in file) (cells_in file) t ≡ in_range (boards_in file) (cells_in file)
-    go false e = unfold sizes_good in rw e
-    go true e =
-        let r = l.right h e in
-        (sizes_exactly (boards_in file) (cells_in file) t).1 ((range_exactly (boards_in file) (cells_in file)).0 e, λ s. rw (r.0, r.1) at (sized s)) ∙ sym e
-
-pub few_copies : (file : List ℕ) (boards cells : ℕ) → Lent file boards cells → cells * boards ≤ 8192
-few_copies file boards cells l = omega (arith, mul-le-mul_left cells l.few_boards, l.few_cells)
+pub few_copies : (cells boards : ℕ) → min cells 512 * min boards 16 ≤ 8192
+few_copies cells boards =
+    let few_boards : min boards 16 ≤ 16 = omega arith in
+    let few_cells : min cells 512 ≤ 512 = omega arith in
+    omega (arith, mul-le-mul_left (min cells 512) few_boards, few_cells)
 
 -- ---- what a run that is not refused has told
 
-module _ (file : List ℕ) (t : Table) (numbers values : List ℕ) (r : Report) (t' : Table) (numbers' values' : List ℕ) (s : Runs file t numbers values r t' numbers' values') (ok : r.number ≡ 0)
-    (e : refusal_of file ≡ 0) (a : 4096 ≤ length numbers') (b : 4096 ≤ length values') where
+module _ (file : List ℕ) (t : Table) (numbers values : List ℕ) (r : RunReply) (t' : Table) (numbers' values' : List ℕ) (s : Runs file t numbers values r t' numbers' values') (ok : r.number ≡ 0)
+    (e : refusal_of file ≡ 0) (bytes : Below 256 file) (head : Head) (h : HeadOf file head) (a : 4096 ≤ length numbers') (b : 4096 ≤ length values') where
   code_of : (i : ℕ) → i < count_in file → get_or file (records_at (cells_in file) + 9 * i) 0 ≡ (line_of_record file i).action.code
   unfolding action_at
-  code_of i h = sym (get_or-drop (records_at (cells_in file)) file (9 * i) 0) ∙ sym (ap (λ (x : Action). x.code) (its_action file i h))
+  code_of i k = sym (get_or-drop (records_at (cells_in file)) file (9 * i) 0) ∙ sym (ap (λ (x : Action). x.code) (its_action file i k))
 
   number_of : (i : ℕ) → i < count_in file → get_or numbers' i 0 ≡ (line_of_record file i).told.number
-  number_of i h = in_slice file t numbers values r t' numbers' values' s ok (λ l. l.told.number) numbers numbers' s.numbers_are i h
+  number_of i k = in_slice file t numbers values r t' numbers' values' s ok (λ l. l.told.number) numbers numbers' s.numbers_are i k
 
   value_of : (i : ℕ) → i < count_in file → get_or values' i 0 ≡ (line_of_record file i).told.value
-  value_of i h = in_slice file t numbers values r t' numbers' values' s ok (λ l. l.told.value) values values' s.values_are i h
+  value_of i k = in_slice file t numbers values r t' numbers' values' s ok (λ l. l.told.value) values values' s.values_are i k
 
-  pub run_told : RunTold file numbers' values' r.accepted r.stale
+  pub run_told : Told file head (record { accepted = r.accepted; stale = r.stale }) numbers' values'
   run_told =
       let y = (readable file (cells_in file)).0 e in
+      let said = head_says file head h y.headed_whole in
       let few : count_in file ≤ 4096 = few_records (length file - (records_at (cells_in file))) y.recorded in
+      let count = said.says_count in
       record {
-        not_refused = e;
-        headed = y.headed_whole;
+        short = run_has_room file bytes e;
+        rule_is = said.says_rule;
+        boards_is = said.says_boards;
+        cells_is = said.says_cells;
+        count_is = count;
         accepted_is = s.accepted_is ∙ rw (eq-eqb r.number 0 ok);
         stale_is = s.stale_is ∙ rw (eq-eqb r.number 0 ok);
-        told = record {
-          few = few;
-          few_before = omega (arith, y.sizes.few_cells);
-          whole = omega (arith, y.valued);
-          room_numbers = omega arith;
-          room_values = omega arith;
-          lines = logged file;
-          codes = code_of;
-          numbers_are = number_of;
-          values_are = value_of;
-        };
+        few = omega arith;
+        whole = omega (arith, said.says_from, y.valued);
+        room_numbers = omega arith;
+        room_values = omega arith;
+        lines = logged file ∙ sym count;
+        codes_are = λ i k. rw said.says_from (code_of i (omega arith));
+        numbers_are = λ i k. number_of i (omega arith);
+        values_are = λ i k. value_of i (omega arith);
       }

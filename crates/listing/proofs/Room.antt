@@ -1,6 +1,6 @@
 -- The listing of a run has at most 94,232 bytes, and `list` never answers 20 where that many are lent. Assumes nothing.
 use mathlib.Core.Path.{◌≡◌, ap, ◌∙◌}
-use mathlib.Core.List.{List, [], ◌∷◌}
+use mathlib.Core.List.{List, [], ◌∷◌, ◌++◌}
 use Prim.Native.Nat.{ℕ, suc, ◌+◌, ◌-◌, ◌*◌, ◌<◌, ◌≤◌}
 use native.Mathlib.Omega.{arith}
 use native.Mathlib.Nat.{mul-le-mul_left}
@@ -14,13 +14,13 @@ use Rattle.sessions.specs.Run.{log_of, accepted_in, stale_of}
 use Rattle.sessions.proofs.AcceptedLaws.{readable, few_records}
 use Rattle.sessions.proofs.LogLaws.{logged}
 use Rattle.sessions.proofs.SmallRun.{log_of_bytes, accepted_at_most, stale_at_most}
-use Rattle.listing.specs.declared.Listed.{Listed}
+use Rattle.std.proofs.Common.{Result, Ok}
+use Rattle.protocol.specs.declared.Refused.{Refused}
 use Rattle.listing.specs.Statements.{Lists}
 use Rattle.listing.specs.Decimal.{digits}
-use Rattle.listing.specs.Listing.{line, record_numbers, record_lines, run_listing, refusal_of, listing_of}
+use Rattle.listing.specs.Listing.{first_line, last_line, line, record_numbers, record_lines, run_listing, refusal_of, listing_of}
 use Rattle.listing.proofs.DigitLaws.{fewer}
 use Rattle.listing.proofs.LineLaws.{line_of_none, length_line}
-use Rattle.listing.proofs.ListingLaws.{length_run}
 
 -- ---- one line
 
@@ -42,6 +42,10 @@ lines_short index (l ∷ ls) h s =
 
 -- ---- a run
 
+length_run : (file : List ℕ) → length (run_listing file) ≡ length (first_line file) + length (record_lines 0 (log_of file)) + length (last_line file)
+unfolding run_listing
+length_run file = omega (arith, length-append (first_line file) (record_lines 0 (log_of file) ++ last_line file), length-append (record_lines 0 (log_of file)) (last_line file))
+
 -- the first line has up to 1 + 2 + 3 + 3 bytes, the last one 4 + 4 + 4 + 3: in all 9 + 4,096 x 23 + 15
 pub run_has_room : (file : List ℕ) → Below 256 file → refusal_of file ≡ 0 → length (run_listing file) ≤ 94232
 run_has_room file b e =
@@ -59,5 +63,5 @@ run_has_room file b e =
 -- ---- any file
 
 -- a refused file has one short line, so `enough` holds of every file
-pub never_20 : (file old : List ℕ) (r : Listed) (out : List ℕ) → 94232 ≤ length old → Lists file old r out → r.number ≡ 0
-never_20 file old r out h s = s.number_is ∙ rw (le-ltb (length old) (length (listing_of file)) (omega (arith, s.enough)))
+pub never_20 : (file old : List ℕ) (r : Result ℕ Refused) (out : List ℕ) → 94232 ≤ length old → Lists file old r out → r ≡ Ok (length (listing_of file))
+never_20 file old r out h s = s.result_is ∙ rw (le-ltb (length old) (length (listing_of file)) (omega (arith, s.enough)))

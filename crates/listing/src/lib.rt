@@ -4,36 +4,50 @@
 ghost use Rattle.listing.specs.Statements.{Lists};
 
 mod decimal;
-mod lent;
 mod line;
-mod lister;
-mod records;
+mod refused;
 mod run;
 
-// How long a listing is; the number is 20 where there is no room for it, else 0.
-#[derive(Clone, Copy)]
-pub struct Listed {
-    pub number: u8,
-    pub length: usize,
-}
+use protocol::{MASKS_PER_CELL, Refused};
+use run::Run;
 
-// Lists a session file at the start of `out`. Nothing behind the listing is changed; without room nothing is.
-pub fn list(file: &[u8], out: &mut [u8]) -> Listed
+// What is lent to a run: a table of the largest size, and answers for the most records.
+const BOARDS: usize = 16;
+
+const CELLS: usize = 512;
+
+const RECORDS: usize = 4096;
+
+// Lists a session file at the start of `out`: answers how long the listing is. Nothing behind it is changed; without room nothing is.
+pub fn list(file: &[u8], out: &mut [u8]) -> Result<usize, Refused>
     ensures { Lists file.now out.old result out.new }
 {
-    let sizes = lent::sizes(file);
-    let mut main = [0u32; 512];
-    let mut copies = [0u32; 8192];
-    let mut masks = [0u16; 1536];
-    let mut numbers = [0u8; 4096];
-    let mut values = [0u32; 4096];
-    lister::list_with(
+    let mut main = [0; CELLS];
+    let mut copies = [0; CELLS * BOARDS];
+    let mut masks = [0; CELLS * MASKS_PER_CELL];
+    let mut numbers = [0; RECORDS];
+    let mut values = [0; RECORDS];
+    // A file of more boards or cells is refused.
+    let head = sessions::head_of(file);
+    let boards = head.boards.min(BOARDS);
+    let cells = head.cells.min(CELLS);
+    let told = sessions::run(
         file,
-        &mut main[..sizes.cells],
-        &mut copies[..sizes.cells * sizes.boards],
-        &mut masks[..sizes.cells * 3],
+        &mut main[..cells],
+        &mut copies[..cells * boards],
+        &mut masks[..cells * MASKS_PER_CELL],
         &mut numbers,
         &mut values,
-        out,
-    )
+    );
+    match told {
+        Ok(report) => Run {
+            file,
+            head,
+            report,
+            numbers: &numbers,
+            values: &values,
+        }
+        .list(out),
+        Err(refused) => refused::list(refused, out),
+    }
 }

@@ -1,50 +1,37 @@
-// A line of numbers: how long it is, and its bytes put into a lent slice.
-ghost use Rattle.std.specs.Prelude.{◌≡◌, cond, ◌+◌, ◌≤◌, eqb, length};
-ghost use Rattle.sessions.specs.Written.{written};
+// A line of numbers: how long it is, and its bytes put at the start of a lent slice.
+ghost use Rattle.std.specs.Prelude.{◌≡◌, ◌≤◌, length};
 ghost use Rattle.listing.specs.Listing.{line};
+ghost use Rattle.listing.specs.Code.{overwritten};
 
 use crate::decimal;
 
-const BLANK: u8 = 32;
+const BLANK: u8 = b' ';
 
-const NEWLINE: u8 = 10;
-
-// The byte behind a number that so many follow in its line.
-fn byte_behind(following: usize) -> u8
-    ensures { result ≡ cond (eqb following 0) 10 32 }
-{
-    if following == 0 {
-        return NEWLINE;
-    }
-    BLANK
-}
+const NEWLINE: u8 = b'\n';
 
 // How long a line of at most four numbers is.
-pub fn line_width(numbers: &[usize]) -> usize
+pub fn width(numbers: &[usize]) -> usize
     requires { length numbers.now ≤ 4 }
     ensures { (result ≡ length (line numbers.now)) × (result ≤ 84) }
 {
-    let mut sum = 0;
-    let mut i = 0;
-    while i < numbers.len() {
-        sum += decimal::width(numbers[i]) + 1;
-        i += 1;
-    }
-    sum
+    numbers.iter().map(|n| decimal::width(*n) + 1).sum()
 }
 
-// The line from a place on: answers the place behind it.
-pub fn put_line(out: &mut [u8], at: usize, numbers: &[usize]) -> usize
-    requires { at + length (line numbers.now) ≤ length out.old }
-    ensures { (result ≡ at + length (line numbers.now)) × (out.new ≡ written (line numbers.now) at out.old) }
+// The line: answers how long it is.
+pub fn put(numbers: &[usize], out: &mut [u8]) -> usize
+    requires { length (line numbers.now) ≤ length out.old }
+    ensures { (result ≡ length (line numbers.now)) × (out.new ≡ overwritten (line numbers.now) out.old) }
 {
-    let mut next = at;
-    let mut i = 0;
-    while i < numbers.len() {
-        next = decimal::put(numbers[i], out, next);
-        i += 1;
-        out[next] = byte_behind(numbers.len() - i);
-        next += 1;
+    let mut end = 0;
+    for (i, n) in numbers.iter().enumerate() {
+        end += decimal::put(*n, &mut out[end..]);
+        let behind = if i + 1 < numbers.len() {
+            BLANK
+        } else {
+            NEWLINE
+        };
+        out[end] = behind;
+        end += 1;
     }
-    next
+    end
 }

@@ -1,19 +1,10 @@
--- `width` counts one digit for each tenth. Assumes nothing.
-use Rattle.std.proofs.Common.{refl, arith}
-use Rattle.listing.proofs.DigitLaws.{length_small, length_more, few_digits}
+-- `width` by the power of ten that the number reaches. Assumes nothing.
+use Rattle.std.proofs.Common.{arith}
+use Rattle.listing.proofs.DigitLaws.{length_small, counted}
 use Rattle.listing.proofs.decimal.width.Goals as goal
 
-pub loop-rest-init : goal.loop-rest-init
-loop-rest-init c = refl
+pub returns-then-n-eq0 : goal.returns-then-n-eq0
+returns-then-n-eq0 c = omega (arith, length_small c.args.n (omega arith))
 
-pub overflow_add-found : goal.overflow_add-found
-overflow_add-found c = omega (arith, few_digits c.args.n (omega arith), c.loop-rest.invariant)
-
-pub loop-rest-preserved : goal.loop-rest-preserved
-loop-rest-preserved c = omega (arith, length_more c.loop-rest.rest (omega arith), c.loop-rest.invariant)
-
-pub returns : goal.returns
-returns c =
-    let l = c.loop-rest in
-    let one = length_small l.rest (omega arith) in
-    (omega (arith, one, l.invariant), omega (arith, one, few_digits c.args.n (omega arith), l.invariant))
+pub returns-else-n-eq0 : goal.returns-else-n-eq0
+returns-else-n-eq0 c = omega (arith, counted c.ilog10.result c.args.n (omega arith) (omega arith))
