@@ -9,18 +9,18 @@ fn put(file: &[u8], out: &mut [u8]) -> usize
     requires { 94232 ≤ length out.old }
     ensures { (result ≤ length out.old) × (result ≡ length (listing_of file.now)) × (take result out.new ≡ listing_of file.now) }
 {
-    listing::list(file, out).length
+    listing::list(file, out).unwrap()
 }
 
 // Writes the listing and answers how long it is; a write that fails is said on standard error. No listing is longer than 94,232 bytes: 4,096
 // lines of at most 23, and two more.
-pub fn show(file: &[u8]) -> usize
+pub fn show(rt: &(impl Print + Eprint), file: &[u8]) -> usize
     ensures { result ≡ length (listing_of file.now) }
 {
-    let mut out = [0u8; 94232];
+    let mut out = [0; 94232];
     let length = put(file, &mut out);
-    if !io::write_all(1, &out[..length]) {
-        io::write_all(2, b"the listing could not be written\n");
+    if rt.write_all(&out[..length]).is_err() {
+        let _ = rt.eprintln("the listing could not be written");
     }
     length
 }

@@ -1,56 +1,26 @@
 // Lists the session file on standard input, or says on standard error that it cannot be read.
 #![tactic(auto)]
 
-ghost use Rattle.std.specs.Prelude.{◌≡◌, List, ℕ, ◌≤◌, length, take};
+ghost use Rattle.std.specs.Prelude.{◌≡◌, List, ℕ, ◌≤◌, length, take, IfOk, IfSome};
 ghost use Rattle.listing.specs.Listing.{listing_of};
 
-use std::io::{Read, Stdin};
+use std::io;
+use std::io::Read;
 
-// How many bytes came, and whether a read failed.
-#[derive(Clone, Copy)]
-struct Input {
-    length: usize,
-    failed: bool,
-}
-
-// Reads once: 0 bytes are the end of the input, where the read did not fail.
-fn read_some(input: &mut Stdin, rest: &mut [u8]) -> Input
-    ensures { result.length ≤ length rest.new }
+// Reads until the buffer is full or the input ends, and answers how many bytes came: they are the input's first, as many as the buffer has or all.
+fn read_input<R: Read>(input: &mut R, buffer: &mut [u8]) -> io::Result<usize>
+    ensures bound { IfOk result (λ n. n ≤ length buffer.new) }
+    ensures first { IfOk result (λ n. IfSome (R.remaining input.old) (λ file. take (length buffer.old) file ≡ take n buffer.new)) }
 {
-    match input.read(rest) {
-        Ok(length) => Input {
-            length,
-            failed: false,
-        },
-        Err(_) => Input {
-            length: 0,
-            failed: true,
-        },
-    }
-}
-
-// Reads until the buffer is full, the input ends or a read fails.
-fn read_input(input: &mut Stdin, buffer: &mut [u8]) -> Input
-    ensures { result.length ≤ length buffer.new }
-{
-    let mut n = 0;
-    while n < buffer.len() {
-        let more = read_some(input, &mut buffer[n..]);
-        if more.failed {
-            return Input {
-                length: n,
-                failed: true,
-            };
+    let mut length = 0;
+    while length < buffer.len() {
+        let more = input.read(&mut buffer[length..])?;
+        if more == 0 {
+            return Ok(length);
         }
-        if more.length == 0 {
-            break;
-        }
-        n += more.length;
+        length += more;
     }
-    Input {
-        length: n,
-        failed: false,
-    }
+    Ok(length)
 }
 
 // What was read, the first n bytes of the buffer: a file that goes on behind a full buffer lists as they do.
@@ -63,12 +33,14 @@ fn first_bytes<'a>(buffer: &'a [u8], n: usize) -> &'a [u8]
 
 // One byte more than the longest accepted file has: a longer file is cut there, and lists all the same.
 fn main(rt: HostRuntime) {
-    let mut buffer = [0u8; 38922];
-    let input = read_input(&mut rt.stdin(), &mut buffer);
-    // what came before a failed read is no file
-    if input.failed {
-        io::write_all(2, b"the session file could not be read\n");
-        return;
+    let mut buffer = [0; 38922];
+    match read_input(&mut rt.stdin(), &mut buffer) {
+        Ok(length) => {
+            output::show(&rt, first_bytes(&buffer, length));
+        }
+        // What came before a failed read is no file.
+        Err(_) => {
+            let _ = rt.eprintln("the session file could not be read");
+        }
     }
-    output::show(first_bytes(&buffer, input.length));
 }
