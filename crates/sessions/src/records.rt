@@ -9,6 +9,7 @@ use crate::Head;
 use protocol::{Action, Answer, Refused};
 
 // A record as an action.
+#[tactic(auto, unfolding(crate::specs::File::le16, crate::specs::File::le32, crate::specs::File::action_at))]
 fn action_of(record: &[u8; 9]) -> Action
     ensures { result ≡ action_at record.now 0 }
 {
