@@ -68,6 +68,7 @@ fn judge_body(sizes_bad: bool, rule: u8, body_bad: bool) -> Result<(), Refused>
 }
 
 // A file to read, where so many places are lent for its starting values.
+#[tactic(auto, using(crate::proofs::RefusalLaws::read_head, crate::proofs::RefusalLaws::read_body))]
 pub fn judged_to_read(file: &[u8], lent: usize) -> Result<Head, Refused>
     ensures { Judged file.now (read_refusals file.now lent) result }
 {
@@ -78,6 +79,7 @@ pub fn judged_to_read(file: &[u8], lent: usize) -> Result<Head, Refused>
 }
 
 // A session to write. The sizes and lengths are judged before they are summed, so that no sum wraps.
+#[tactic(auto, using(crate::proofs::RefusalLaws::write_body, crate::proofs::RefusalLaws::write_short, crate::proofs::RefusalLaws::write_roomy))]
 pub fn judge_to_write(
     rule: u8,
     boards: usize,
