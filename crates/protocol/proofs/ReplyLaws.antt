@@ -5,7 +5,7 @@ use Rattle.protocol.specs.declared.Refused.{Refused}
 use Rattle.protocol.specs.declared.Refused.TheVariants.{BadSizes, BadRule, Malformed, Missing, OffBoard, NoSuchCell, NotSound}
 use Rattle.protocol.specs.declared.Refused.TheVariants.{NotLive, IsDirty, NotDirty, DirtyElsewhere, AnotherCopy, LockBars, LockNotHeld, NotCurrent, StillLive}
 use Rattle.protocol.specs.declared.Refused.TheVariants.{WrongMark, WrongVersion, WrongLength, NoRoom}
-use Rattle.protocol.specs.Replies.{reply_number, number_of_reply, answer_of, done_of}
+use Rattle.protocol.specs.Replies.{reply_number, number_of_reply, answer_of}
 
 -- the reply with a number
 abbrev replies : List Refused

@@ -30,11 +30,6 @@ reply_number WrongVersion = 18
 reply_number WrongLength = 19
 reply_number NoRoom = 20
 
--- the number of a reply: "0 is accepted"
-abbrev pub number_of_reply : {A : Type 0} → Result A Refused → ℕ
-number_of_reply (Ok a) = 0
-number_of_reply (Err e) = reply_number e
-
 -- "An answer is a number and a value": of an accepted call the value is told, and a refusal's is 0
 abbrev pub answer_with : {A : Type 0} → (value : A → ℕ) → Result A Refused → Answer
 answer_with value (Ok a) = record { number = 0; value = value a }
@@ -47,6 +42,10 @@ answer_of = answer_with (λ v. v)
 -- the answer of a call that tells no value
 abbrev pub done_of : {A : Type 0} → Result A Refused → Answer
 done_of = answer_with (λ a. 0)
+
+-- the number of a reply: "0 is accepted"
+abbrev pub number_of_reply : {A : Type 0} → Result A Refused → ℕ
+number_of_reply r = (done_of r).number
 
 -- a rule's number is read as that rule, and one above the last is refused with 2
 abbrev pub Ruled : (number : ℕ) → Result Rule Refused → Type 0

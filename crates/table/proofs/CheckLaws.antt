@@ -1,18 +1,17 @@
 -- The whole-table check as its loops go, and what each way out has to show. Assumes nothing.
-use mathlib.Core.Path.{◌≡◌, refl, sym, ap, ◌∙◌}
+use mathlib.Core.Path.{◌≡◌, sym, ◌∙◌}
 use mathlib.Core.Bool.{true, false, not}
-use Rattle.std.specs.Prelude.{Option, Some, None}
+use Rattle.std.specs.Prelude.{Option, Some, None, Ok, Err}
+use Rattle.protocol.specs.declared.Refused.TheVariants.{BadSizes, BadRule}
 use Prim.Native.Nat.{ℕ, suc, ◌+◌, ◌-◌, ◌<◌, ◌≤◌}
 use native.Mathlib.Omega.{arith}
 use Rattle.protocol.specs.Names.{rule_of}
 use Rattle.protocol.specs.Slices.{Table, sizes_good}
 use Rattle.protocol.specs.Cell.{cell_of}
 use Rattle.protocol.specs.Soundness.{sound}
-use Rattle.protocol.specs.Check.{check_answer, lowest_from, lowest_unsound_by, lowest_unsound}
+use Rattle.protocol.specs.Check.{lowest_from, lowest_unsound_by, lowest_unsound}
 use Rattle.protocol.proofs.CheckExactly.{check_1, check_2, check_accepted, check_value}
-use Rattle.table.specs.declared.Checked.{Checked}
-use Rattle.table.specs.declared.Checked.TheVariants.{Sound, Unsound, Refused}
-use Rattle.table.specs.Statements.{answer_of, found_of, Checks}
+use Rattle.table.specs.Statements.{Checks}
 
 module _ (rule boards cells : ℕ) (t : Table) where
   -- what is left to find, from a cell on
@@ -43,31 +42,11 @@ module _ (rule boards cells : ℕ) (t : Table) where
 
   -- ---- the ways out
 
-  valueless : (r : Checked) → (answer_of r).value ≡ (check_answer rule boards cells t).value
-  unfolding answer_of
-  valueless Sound = sym (check_value rule boards cells t)
-  valueless (Unsound c) = sym (check_value rule boards cells t)
-  valueless (Refused n) = sym (check_value rule boards cells t)
+  pub refused_1 : sizes_good boards cells t ≡ false → Checks boards cells t rule (Err BadSizes)
+  refused_1 s = record { number = sym ((check_1 rule boards cells t).1 s); value = sym (check_value rule boards cells t); accepted = tt }
 
-  pub refused_1 : sizes_good boards cells t ≡ false → Checks boards cells t rule (Refused 1)
-  unfolding answer_of
-  refused_1 s = record { number = sym ((check_1 rule boards cells t).1 s); value = valueless (Refused 1); accepted = λ e. absurd (omega arith); refused = λ n. refl }
+  pub refused_2 : sizes_good boards cells t ≡ true → 4 < rule → Checks boards cells t rule (Err BadRule)
+  refused_2 s h = record { number = sym ((check_2 rule boards cells t).1 (s, h)); value = sym (check_value rule boards cells t); accepted = tt }
 
-  pub refused_2 : sizes_good boards cells t ≡ true → 4 < rule → Checks boards cells t rule (Refused 2)
-  unfolding answer_of
-  refused_2 s h = record { number = sym ((check_2 rule boards cells t).1 (s, h)); value = valueless (Refused 2); accepted = λ e. absurd (omega arith); refused = λ n. refl }
-
-  number_found : (o : Option ℕ) → (answer_of (found_of o)).number ≡ 0
-  unfolding answer_of found_of
-  number_found None = refl
-  number_found (Some c) = refl
-
-  pub found : sizes_good boards cells t ≡ true → rule ≤ 4 → (r : Checked) → r ≡ found_of (left_from 0) → Checks boards cells t rule r
-  found s h r e =
-      let z : (answer_of r).number ≡ 0 = ap (λ (c : Checked). (answer_of c).number) e ∙ number_found (left_from 0) in
-      record {
-        number = z ∙ sym ((check_accepted rule boards cells t).1 (s, h));
-        value = valueless r;
-        accepted = λ d. e ∙ ap found_of (sym left_start);
-        refused = λ n. absurd (n z);
-      }
+  pub found : sizes_good boards cells t ≡ true → rule ≤ 4 → (o : Option ℕ) → o ≡ left_from 0 → Checks boards cells t rule (Ok o)
+  found s h o e = record { number = sym ((check_accepted rule boards cells t).1 (s, h)); value = sym (check_value rule boards cells t); accepted = e ∙ sym left_start }

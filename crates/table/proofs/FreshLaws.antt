@@ -10,11 +10,14 @@ use Rattle.protocol.specs.Fresh.{fresh_table}
 use Rattle.protocol.proofs.CellLaws.{sizes_of}
 use Rattle.protocol.proofs.FreshExactly.{fresh_1, fresh_accepted, fresh_value, fresh_refused_changes_nothing, fresh_fills}
 use Rattle.table.specs.Statements.{Holds, Freshens}
+use Rattle.std.specs.Prelude.{Ok, Err}
+use Rattle.protocol.specs.declared.Refused.TheVariants.{BadSizes}
+use Rattle.protocol.specs.Replies.{done_of}
 use native.Mathlib.Omega.{arith}
 
 module _ (boards cells : ℕ) (starting : List ℕ) (t : Table) where
   -- a size is bad
-  pub not_started : (sizes_good boards cells t ≡ false) ⊎ (length starting ≢ cells) → Freshens boards cells t starting (record { number = 1; value = 0 }) t
+  pub not_started : (sizes_good boards cells t ≡ false) ⊎ (length starting ≢ cells) → Freshens boards cells t starting (done_of {A = Unit {0}} (Err BadSizes)) t
   not_started bad =
       let e = (fresh_1 boards cells starting t).1 bad in
       let f = fresh_refused_changes_nothing boards cells starting t (λ z. let d : ◌≡◌ {A = ℕ} 1 0 = sym e ∙ z in omega arith) in
@@ -22,7 +25,7 @@ module _ (boards cells : ℕ) (starting : List ℕ) (t : Table) where
 
   pub started : sizes_good boards cells t ≡ true → length starting ≡ cells → (t' : Table) →
       t' main ≡ starting → t' copies ≡ replicate (length (t copies)) 0 → t' masks ≡ replicate (length (t masks)) 0 →
-      Freshens boards cells t starting (record { number = 0; value = 0 }) t'
+      Freshens boards cells t starting (done_of {A = Unit {0}} (Ok (tt {0}))) t'
   started good d t' a b c =
       let e = (fresh_accepted boards cells starting t).1 (good, d) in
       record { number = sym e; value = sym (fresh_value boards cells starting t); slices = rw (fresh_fills boards cells starting t e) go }

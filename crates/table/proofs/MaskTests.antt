@@ -4,13 +4,13 @@ use mathlib.Core.Bool.{Bool, true, false, not, ◌&&◌, ◌||◌}
 use Prim.Native.Nat.{ℕ, zero, suc, ◌/◌, ◌%◌, ◌^◌, ◌<◌, ◌≤◌, min}
 use native.Mathlib.Omega.{arith}
 use native.Mathlib.Decide.{ℕ_discrete}
-use lib.Dec.{eqb, ltb}
-use lib.Bits.{bit_and, bit_or, and_step, and_shr, and_le_l, and_le_r, or_add_and, or_lt}
+use lib.Dec.{eqb}
+use lib.Bits.{bit_and, and_step, and_shr}
 use lib.Count.{ones}
-use borrow.Author.Tests.{eq-eqb, eqb-true, eqb-false, ltb-true, lt-ltb, not-true}
+use borrow.Author.Tests.{eq-eqb, eqb-true, eqb-false, not-true}
 use Rattle.protocol.specs.Masks.{has_board, has_another, lowest_board}
 use Rattle.protocol.specs.Soundness.{every_board}
-use Rattle.protocol.proofs.Booleans.{clash, not_so, and_left, and_right, and_both, either, boards_imply}
+use Rattle.protocol.proofs.Booleans.{clash, not_so, and_right, either, boards_imply}
 use Rattle.protocol.proofs.MaskLaws.{same_mask, has_none, has_lowest, high_of_lt, another_false, ones_same}
 use Rattle.protocol.proofs.BoundedMasks.{below}
 use Rattle.table.specs.Code.{within}
@@ -75,14 +75,3 @@ module _ (P a : ℕ) (l : a < 2 ^ P) where
       at p h q g (no n) =
           let k = (boards_imply P (has_board a) (λ p. not (has_another b p))).0 e p (among p h) h in
           absurd (clash g ((another_false b p).0 (not-true _ k) q n))
-
--- ---- no bit at P or above, of two masks at once
-
-pub or_below : (k a b : ℕ) → ltb (bit_or a b) (2 ^ k) ≡ (ltb a (2 ^ k) && ltb b (2 ^ k))
-or_below k a b = go (ltb (bit_or a b) (2 ^ k)) refl
-  where
-    go : (c : Bool) → ltb (bit_or a b) (2 ^ k) ≡ c → ltb (bit_or a b) (2 ^ k) ≡ (ltb a (2 ^ k) && ltb b (2 ^ k))
-    go true e =
-        let l = ltb-true (bit_or a b) (2 ^ k) e in
-        e ∙ sym (and_both (ltb a (2 ^ k)) (ltb b (2 ^ k)) (lt-ltb a (2 ^ k) (omega (arith, or_add_and a b, and_le_r a b))) (lt-ltb b (2 ^ k) (omega (arith, or_add_and a b, and_le_l a b))))
-    go false e = e ∙ sym (not_so _ (λ t. clash (lt-ltb _ _ (or_lt k a b (ltb-true a (2 ^ k) (and_left (ltb a (2 ^ k)) (ltb b (2 ^ k)) t)) (ltb-true b (2 ^ k) (and_right (ltb a (2 ^ k)) (ltb b (2 ^ k)) t)))) e))

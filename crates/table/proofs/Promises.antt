@@ -1,15 +1,16 @@
 -- The promises of `protocol` over the slices of the functions themselves: what a caller who lends them may rely on. Assumes nothing.
-use mathlib.Core.Path.{◌≡◌, refl, sym, ap, ◌∙◌, fun_ext}
+use mathlib.Core.Path.{◌≡◌, sym, ap, ◌∙◌, fun_ext}
 use mathlib.Core.Logic.{◌≢◌, ◌↔◌, ◌⊎◌}
 use mathlib.Core.Bool.{true, false}
 use mathlib.Core.List.{List}
-use Rattle.std.specs.Prelude.{Option, Some, None}
+use Rattle.std.specs.Prelude.{Option, Some, None, Result, Ok}
 use Prim.Native.Nat.{ℕ, ◌<◌, ◌≤◌}
-use native.Mathlib.Omega.{arith}
 use lib.ListN.{length}
 use Rattle.protocol.specs.declared.Action.{Action}
 use Rattle.protocol.specs.declared.Answer.{Answer}
+use Rattle.protocol.specs.declared.Refused.{Refused}
 use Rattle.protocol.specs.Names.{rule_of, proc_of}
+use Rattle.protocol.specs.Replies.{number_of_reply}
 use Rattle.protocol.specs.Slices.{Table, sizes_good}
 use Rattle.protocol.specs.Cell.{cell_of}
 use Rattle.protocol.specs.Soundness.{sound}
@@ -19,20 +20,16 @@ use Rattle.protocol.specs.Check.{lowest_unsound, AllSound, LowestUnsound}
 use Rattle.protocol.specs.Fresh.{fresh_table, fresh_after}
 use Rattle.protocol.specs.Handout.{Guard, Effect, Value}
 use Rattle.protocol.specs.AsHandout.{as_state, NoOtherHolds}
+use Rattle.protocol.proofs.ReplyLaws.{one_result}
 use Rattle.protocol.proofs.Demand1.{refused_exactly, accepted_exactly, refused_changes_nothing, only_reads_answer}
 use Rattle.protocol.proofs.Demand2.{accepted_when_allowed, value_is, state_is, sound_after, others_stay}
 use Rattle.protocol.proofs.CheckExactly.{check_1, check_2, check_accepted, check_sound, check_unsound}
 use Rattle.protocol.proofs.FreshExactly.{fresh_1, fresh_accepted, fresh_value, fresh_refused_changes_nothing, fresh_fills}
-use Rattle.table.specs.declared.Checked.{Checked}
-use Rattle.table.specs.declared.Checked.TheVariants.{Sound, Unsound}
-use Rattle.table.specs.Statements.{Holds, answer_of, found_of, Freshens, Checks, Steps}
+use Rattle.table.specs.Statements.{Holds, Freshens, Checks, Steps}
 
 -- a table that holds what another does is that table
 pub held : (t u : Table) → Holds t u → t ≡ u
 held t u h = fun_ext h
-
-not_both : (c : ℕ) → Sound ≡ Unsound c → ⊥
-not_both c e = let z : ◌≡◌ {A = ℕ} 0 1 = cc in omega arith
 
 module _ (boards cells : ℕ) (t : Table) where
   -- ---- `step`
@@ -72,44 +69,34 @@ module _ (boards cells : ℕ) (t : Table) where
 
   -- ---- `check`
 
-  module _ (rule : ℕ) (r : Checked) (s : Checks boards cells t rule r) where
+  module _ (rule : ℕ) (r : Result (Option ℕ) Refused) (s : Checks boards cells t rule r) where
     -- demand 1
-    pub check_answers_1 : ((answer_of r).number ≡ 1) ↔ (sizes_good boards cells t ≡ false)
+    pub check_answers_1 : (number_of_reply r ≡ 1) ↔ (sizes_good boards cells t ≡ false)
     check_answers_1 = rw s.number (check_1 rule boards cells t)
 
-    pub check_answers_2 : ((answer_of r).number ≡ 2) ↔ ((sizes_good boards cells t ≡ true) × (4 < rule))
+    pub check_answers_2 : (number_of_reply r ≡ 2) ↔ ((sizes_good boards cells t ≡ true) × (4 < rule))
     check_answers_2 = rw s.number (check_2 rule boards cells t)
 
-    pub check_is_accepted : ((answer_of r).number ≡ 0) ↔ ((sizes_good boards cells t ≡ true) × (rule ≤ 4))
+    pub check_is_accepted : (number_of_reply r ≡ 0) ↔ ((sizes_good boards cells t ≡ true) × (rule ≤ 4))
     check_is_accepted = rw s.number (check_accepted rule boards cells t)
 
-    pub check_says_sound : (r ≡ Sound) ↔ ((sizes_good boards cells t ≡ true) × (rule ≤ 4) × AllSound rule boards cells t)
-    unfolding answer_of found_of
-    check_says_sound = (there, λ f. s.accepted (check_is_accepted.1 (f.0, f.1)) ∙ ap found_of ((check_sound rule boards cells t).1 f.2))
+    -- the finding of an accepted check
+    check_says : (o : Option ℕ) {F : Type 0} → (lowest_unsound rule boards cells t ≡ o) ↔ F → (r ≡ Ok o) ↔ ((sizes_good boards cells t ≡ true) × (rule ≤ 4) × F)
+    check_says o {F} means = (there, λ f. back (check_is_accepted.1 (f.0, f.1)) (means.1 f.2))
       where
-        go : (o : Option ℕ) → Sound ≡ found_of o → o ≡ None
-        go None d = refl
-        go (Some c) d = absurd (not_both c d)
-
-        there : r ≡ Sound → (sizes_good boards cells t ≡ true) × (rule ≤ 4) × AllSound rule boards cells t
+        there : r ≡ Ok o → (sizes_good boards cells t ≡ true) × (rule ≤ 4) × F
         there e =
-            let z : (answer_of r).number ≡ 0 = ap (λ (c : Checked). (answer_of c).number) e in
-            let f = check_is_accepted.0 z in
-            (f.0, f.1, (check_sound rule boards cells t).0 (go (lowest_unsound rule boards cells t) (sym e ∙ s.accepted z)))
+            let f = check_is_accepted.0 (ap (λ (q : Result (Option ℕ) Refused). number_of_reply q) e) in
+            (f.0, f.1, means.0 (sym (rw e at s.accepted)))
 
-    pub check_says_unsound : (c : ℕ) → (r ≡ Unsound c) ↔ ((sizes_good boards cells t ≡ true) × (rule ≤ 4) × LowestUnsound rule boards cells t c)
-    unfolding answer_of found_of
-    check_says_unsound c = (there, λ f. s.accepted (check_is_accepted.1 (f.0, f.1)) ∙ ap found_of ((check_unsound rule boards cells t c).1 f.2))
-      where
-        go : (o : Option ℕ) → Unsound c ≡ found_of o → o ≡ Some c
-        go None d = absurd (not_both c (sym d))
-        go (Some b) d = cc
+        back : number_of_reply r ≡ 0 → lowest_unsound rule boards cells t ≡ o → r ≡ Ok o
+        back z e = one_result r (Ok o) z (λ a b p q. let k : o ≡ b = cc in rw p at s.accepted ∙ e ∙ k)
 
-        there : r ≡ Unsound c → (sizes_good boards cells t ≡ true) × (rule ≤ 4) × LowestUnsound rule boards cells t c
-        there e =
-            let z : (answer_of r).number ≡ 0 = ap (λ (c : Checked). (answer_of c).number) e in
-            let f = check_is_accepted.0 z in
-            (f.0, f.1, (check_unsound rule boards cells t c).0 (go (lowest_unsound rule boards cells t) (sym e ∙ s.accepted z)))
+    pub check_says_sound : (r ≡ Ok None) ↔ ((sizes_good boards cells t ≡ true) × (rule ≤ 4) × AllSound rule boards cells t)
+    check_says_sound = check_says None (check_sound rule boards cells t)
+
+    pub check_says_unsound : (c : ℕ) → (r ≡ Ok (Some c)) ↔ ((sizes_good boards cells t ≡ true) × (rule ≤ 4) × LowestUnsound rule boards cells t c)
+    check_says_unsound c = check_says (Some c) (check_unsound rule boards cells t c)
 
   -- ---- `fresh`
 

@@ -15,7 +15,7 @@ use Rattle.protocol.specs.Cell.{Cell, main_value, copy_at, live_mask, dirty_mask
 use Rattle.protocol.proofs.Booleans.{clash}
 use Rattle.protocol.proofs.MaskLaws.{has_lowest, high_of_lt}
 use Rattle.protocol.proofs.InWords.{sizes_exactly}
-use Rattle.table.specs.Code.{Ready, Room, MasksAt, current_at}
+use Rattle.table.specs.Code.{Ready, MasksAt, current_at}
 
 pub ready : (boards cells : ℕ) (t : Table) → sizes_good boards cells t ≡ true → (cell : ℕ) → cell < cells → Ready boards cells cell t
 ready boards cells t e cell l =
@@ -54,21 +54,6 @@ module _ (boards cells cell : ℕ) (t : Table) (y : Ready boards cells cell t) w
   pub masks_in : cell * 3 + 2 < length (t masks)
   unfolding width
   masks_in = omega (arith, y.sized masks, y.inside)
-
-  pub room : (board to : ℕ) → board < boards → to < boards → Room boards cells cell board to t
-  room board to l h =
-      let f = y.few_boards in
-      record {
-        ready = y;
-        home = l;
-        there = h;
-        low = omega arith;
-        low_there = omega arith;
-        at_main = main_in;
-        at_home = copy_in board l;
-        at_there = copy_in to h;
-        at_masks = masks_in;
-      }
 
   -- ---- the cell's numbers
 

@@ -1,15 +1,20 @@
 -- What the private functions of this crate ask and answer, on plain numbers. Assumes nothing.
-use Rattle.std.specs.Prelude.{◌≡◌, Bool, cond, not, ◌&&◌, ◌||◌, List, ℕ, ◌+◌, ◌*◌, ◌^◌, ◌<◌, ◌≤◌, eqb, ltb, leb, length, get_or, set}
+use Rattle.std.specs.Prelude.{◌≡◌, Bool, false, cond, not, ◌&&◌, ◌||◌, List, [], ◌∷◌, ℕ, ◌+◌, ◌*◌, ◌^◌, ◌<◌, ◌≤◌, eqb, ltb, leb, length, get_or, Result, Ok, Err}
 use Rattle.std.specs.Int.Bits.{bit_and}
 use Rattle.std.specs.Int.Count.{ones}
 use Rattle.protocol.specs.declared.Rule.{Rule}
-use Rattle.protocol.specs.Names.{rule_of, proc_of}
-use Rattle.protocol.specs.Masks.{has_board, with_board, lowest_board}
+use Rattle.protocol.specs.declared.Proc.{Proc}
+use Rattle.protocol.specs.declared.Proc.TheVariants.{Read, Write, Barrier, MtoC, CtoM, CtoC, Drop, Acquire, Release}
+use Rattle.protocol.specs.declared.Refused.{Refused}
+use Rattle.protocol.specs.Names.{proc_of}
+use Rattle.protocol.specs.Replies.{reply_number}
+use Rattle.protocol.specs.Step.{malformed, missing}
+use Rattle.protocol.specs.Masks.{has_board, lowest_board}
 use Rattle.protocol.specs.Slices.{Slice, main, copies, masks, Table, table_of, width}
 use Rattle.protocol.specs.Effects.{effect, value_of, stores_in}
 use Rattle.protocol.specs.Cell.{Cell, cell_of, copy_at, live_mask, dirty_mask, lock_mask, current_value}
 use Rattle.protocol.specs.Soundness.{every_board}
-use Rattle.protocol.specs.First.{first_number}
+use Rattle.protocol.specs.First.{when, first_number}
 use Rattle.protocol.specs.Guards.{guard}
 use Rattle.protocol.specs.declared.Action.{Action}
 
@@ -21,17 +26,40 @@ pub record Ready (boards cells cell : ℕ) (t : Table) : Type 0 where
   pub inside : cell < cells
   pub sized : (s : Slice) → length (t s) ≡ cells * width boards s
 
--- and the two boards of an action, with the places that it uses
-pub record Room (boards cells cell board to : ℕ) (t : Table) : Type 0 where
-  pub ready : Ready boards cells cell t
-  pub home : board < boards
-  pub there : to < boards
-  pub low : board < 16
-  pub low_there : to < 16
-  pub at_main : cell < length (t main)
-  pub at_home : cell * boards + board < length (t copies)
-  pub at_there : cell * boards + to < length (t copies)
-  pub at_masks : cell * 3 + 2 < length (t masks)
+-- the sizes of a table that has been judged
+abbrev pub Sized : (boards cells : ℕ) → (in_main in_copies in_masks : List ℕ) → Type 0
+Sized boards cells in_main in_copies in_masks =
+    (1 ≤ boards)
+    × (boards ≤ 16)
+    × (1 ≤ cells)
+    × (cells ≤ 512)
+    × (length in_main ≡ cells)
+    × (length in_copies ≡ cells * boards)
+    × (length in_masks ≡ cells * 3)
+
+-- what holds of each board that a procedure names
+abbrev pub EachBoard : (ℕ → Type 0) → Proc → Type 0
+EachBoard F (Read p) = F p
+EachBoard F (Write p v) = F p
+EachBoard F (Barrier p) = F p
+EachBoard F (MtoC p) = F p
+EachBoard F (CtoM p) = F p
+EachBoard F (CtoC p q) = F p × F q
+EachBoard F (Drop p) = F p
+EachBoard F (Acquire p) = F p
+EachBoard F (Release p) = F p
+
+-- the board whose copy its guard looks at
+abbrev pub board_of : Proc → ℕ
+board_of (Read p) = p
+board_of (Write p v) = p
+board_of (Barrier p) = p
+board_of (MtoC p) = p
+board_of (CtoM p) = p
+board_of (CtoC p q) = p
+board_of (Drop p) = p
+board_of (Acquire p) = p
+board_of (Release p) = p
 
 -- the masks of a cell
 pub record MasksAt (in_masks : List ℕ) (cell live dirty lock : ℕ) : Type 0 where
@@ -65,40 +93,33 @@ copy_sound rule live copy current board = (has_board live board || eqb copy 0) &
 abbrev pub copies_sound : (rule boards cell live current : ℕ) → (in_copies : List ℕ) → (first : ℕ) → Bool
 copies_sound rule boards cell live current in_copies first = every_board first (λ p. copy_sound rule live (get_or in_copies (cell * boards + p) 0) current p)
 
--- the masks with a board put into the one at a place
-abbrev pub marked : (w : List ℕ) → (at board : ℕ) → List ℕ
-marked w at board = set w at (with_board (get_or w at 0) board)
+-- an action that is well formed and that the rule has is read as its procedure; another is refused with 3 or 4
+abbrev pub Names : (rule : ℕ) → Action → Result Proc Refused → Type 0
+Names rule a (Ok p) = (malformed a ≡ false) × (missing rule a.code ≡ false) × (p ≡ proc_of a)
+Names rule a (Err e) = reply_number e ≡ first_number (when 3 (malformed a) ∷ when 4 (missing rule a.code) ∷ [])
 
--- and with a board that has got a copy: it is live and, where the copy was written there, dirty
-abbrev pub received : (w : List ℕ) → (live board : ℕ) → (written : Bool) → List ℕ
-received w live board written = cond written (marked (marked w live board) (live + 1) board) (marked w live board)
-
--- n is what the guard of an action answers on every cell with these masks, this copy at its board, and this current value
-abbrev pub GuardGives : (rule live dirty lock copy current : ℕ) → Action → (n : ℕ) → Type 0
+-- n is what the guard of a procedure answers on every cell with these masks, this copy at its board, and this current value
+abbrev pub GuardGives : Rule → (live dirty lock copy current : ℕ) → Proc → (n : ℕ) → Type 0
 GuardGives rule live dirty lock copy current a n =
-    (x : Cell) → live_mask x ≡ live → dirty_mask x ≡ dirty → lock_mask x ≡ lock → copy_at x a.board ≡ copy → current_value x ≡ current →
-    n ≡ first_number (guard x (rule_of rule) (proc_of a))
-
--- the action of these numbers
-abbrev pub action_of : (code board to cell value : ℕ) → Action
-action_of code board to cell value = record { code = code; board = board; to = to; cell = cell; value = value }
+    (x : Cell) → live_mask x ≡ live → dirty_mask x ≡ dirty → lock_mask x ≡ lock → copy_at x (board_of a) ≡ copy → current_value x ≡ current →
+    n ≡ first_number (guard x rule a)
 
 -- what an accepted action leaves in a slice, whatever the rule
-abbrev pub Leaves : (boards cells : ℕ) → Table → Action → Slice → List ℕ → Type 0
-Leaves boards cells t a s l = (rule : Rule) → l ≡ stores_in boards a.cell t (effect rule boards (cell_of boards cells t a.cell) (proc_of a)) s
+abbrev pub Leaves : (boards cells cell : ℕ) → Table → Proc → Slice → List ℕ → Type 0
+Leaves boards cells cell t a s l = (rule : Rule) → l ≡ stores_in boards cell t (effect rule boards (cell_of boards cells t cell) a) s
 
 -- what it answers, and leaves in main and the copies
-pub record Values (boards cells : ℕ) (t : Table) (a : Action) (r : ℕ) (m' k' : List ℕ) : Type 0 where
-  pub value : r ≡ value_of (cell_of boards cells t a.cell) (proc_of a)
-  pub leaves_main : Leaves boards cells t a main m'
-  pub leaves_copies : Leaves boards cells t a copies k'
+pub record Values (boards cells cell : ℕ) (t : Table) (a : Proc) (r : ℕ) (m' k' : List ℕ) : Type 0 where
+  pub value : r ≡ value_of (cell_of boards cells t cell) a
+  pub leaves_main : Leaves boards cells cell t a main m'
+  pub leaves_copies : Leaves boards cells cell t a copies k'
 
--- the same, whatever stands in the masks
-abbrev pub StoresValues : (boards : ℕ) → (m k : List ℕ) → Action → (r : ℕ) → (m' k' : List ℕ) → Type 0
-StoresValues boards m k a r m' k' =
-    (cells : ℕ) (w : List ℕ) → Room boards cells a.cell a.board a.to (table_of m k w) → Values boards cells (table_of m k w) a r m' k'
+-- the same at each cell of a table, whatever stands in the masks
+abbrev pub StoresValues : (boards : ℕ) → (m k : List ℕ) → (cell : ℕ) → Proc → (r : ℕ) → (m' k' : List ℕ) → Type 0
+StoresValues boards m k cell a r m' k' =
+    (cells : ℕ) (w : List ℕ) → Ready boards cells cell (table_of m k w) → EachBoard (λ p. p < boards) a → Values boards cells cell (table_of m k w) a r m' k'
 
 -- and what it leaves in the masks, whatever stands in main and the copies
-abbrev pub StoresMasks : (w : List ℕ) → (code board to cell : ℕ) → (w' : List ℕ) → Type 0
-StoresMasks w code board to cell w' =
-    (boards cells value : ℕ) (m k : List ℕ) → Room boards cells cell board to (table_of m k w) → Leaves boards cells (table_of m k w) (action_of code board to cell value) masks w'
+abbrev pub StoresMasks : (w : List ℕ) → (cell : ℕ) → Proc → (w' : List ℕ) → Type 0
+StoresMasks w cell a w' =
+    (boards cells : ℕ) (m k : List ℕ) → Ready boards cells cell (table_of m k w) → EachBoard (λ p. p < boards) a → Leaves boards cells cell (table_of m k w) a masks w'

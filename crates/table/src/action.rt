@@ -1,52 +1,42 @@
 // An action on a table in lent slices: what stands against it, and what it does.
-ghost use Rattle.std.specs.Prelude.{◌≡◌, ◌+◌, ◌*◌, ◌<◌, ◌≤◌, length};
+ghost use Rattle.std.specs.Prelude.{◌≡◌, ◌+◌, ◌*◌, ◌<◌, ◌≤◌, length, slice_index, slice_set, IfOk};
+ghost use Rattle.protocol.specs.Masks.{with_board, without_board};
+ghost use Rattle.protocol.specs.Names.{proc_of};
+ghost use Rattle.protocol.specs.Replies.{number_of_reply};
 ghost use Rattle.protocol.specs.Slices.{table_of};
 ghost use Rattle.protocol.specs.Step.{answer};
-ghost use Rattle.table.specs.Code.{StoresValues, StoresMasks, action_of};
+ghost use Rattle.table.specs.Code.{EachBoard, StoresValues, StoresMasks};
 
-use crate::{cell, mask, rules};
-use protocol::Action;
+use crate::mask::{Board, Mask};
+use crate::rules;
+use crate::view::View;
+use protocol::{Action, MASKS_PER_CELL, Proc, Refused, Rule};
 
-// The number of an action's answer. Nothing is changed, and of the cells only the named one is looked at.
-pub fn refusal(
-    rule: u8,
-    boards: usize,
-    cells: usize,
-    main: &[u32],
-    copies: &[u32],
-    masks: &[u16],
-    a: Action,
-) -> u8
-    ensures { result ≡ (answer rule boards cells (table_of main.now copies.now masks.now) a).number }
+// The procedure of an action that nothing stands against. Of the cells only the named one is looked at.
+pub fn judge(view: &View, rule: u8, a: Action) -> Result<Proc, Refused>
+    ensures number { number_of_reply result ≡ (answer rule view.now.boards view.now.cells (table_of view.now.main.now view.now.copies.now view.now.masks.now) a).number }
+    ensures ok { IfOk result (λ p. p ≡ proc_of a) }
 {
-    if !crate::sizes_good(boards, cells, main, copies, masks) {
-        return protocol::BAD_SIZES;
-    }
-    if rule > protocol::LAST_RULE {
-        return protocol::BAD_RULE;
-    }
-    let form = rules::form(rule, a);
-    if form != protocol::ACCEPTED {
-        return form;
-    }
-    if rules::off_board(boards, a) {
-        return protocol::OFF_BOARD;
+    let ruled = Rule::try_from(rule)?;
+    let procedure = rules::procedure(ruled, a)?;
+    if rules::off_board(view.boards, a) {
+        return Err(Refused::OffBoard);
     }
     let cell = a.cell as usize;
-    if cells <= cell {
-        return protocol::NO_SUCH_CELL;
+    if cell >= view.cells {
+        return Err(Refused::NoSuchCell);
     }
-    let m = cell::masks_at(masks, cell);
-    if !cell::masks_sound(rule, boards, m) {
-        return protocol::NOT_SOUND;
+    let m = view.masks_at(cell);
+    if !m.are_sound(ruled, view.boards) {
+        return Err(Refused::NotSound);
     }
-    let now = cell::current(boards, main, copies, cell, m.dirty);
-    if !cell::copies_sound(rule, boards, copies, cell, m.live, now) {
-        return protocol::NOT_SOUND;
+    let now = view.current(cell, m.dirty);
+    if !view.copies_sound(ruled, cell, m.live, now) {
+        return Err(Refused::NotSound);
     }
-    let board = a.board as usize;
-    let copy = copies[cell * boards + board];
-    rules::guard(rule, m, copy, now, a)
+    let copy = view.copy_at(cell, a.board as usize);
+    rules::guard(ruled, m, copy, now, procedure)?;
+    Ok(procedure)
 }
 
 // What an accepted action stores in main and the copies, and the value that it answers.
@@ -54,88 +44,78 @@ pub fn store_values(
     boards: usize,
     main: &mut [u32],
     copies: &mut [u32],
-    code: u8,
-    board: usize,
-    to: usize,
+    procedure: Proc,
     cell: usize,
-    value: u32,
 ) -> u32
-    requires { (cell < length main.old) × (cell * boards + board < length copies.old) × (cell * boards + to < length copies.old) × (code ≤ 8) }
-    ensures { StoresValues boards main.old copies.old (action_of code board to cell value) result main.new copies.new }
+    requires { (cell < length main.old) × EachBoard (λ p. cell * boards + p < length copies.old) procedure }
+    ensures { StoresValues boards main.old copies.old cell procedure result main.new copies.new }
 {
-    let home = cell * boards + board;
-    let there = cell * boards + to;
-    match code {
-        // Read
-        0 => copies[home],
-        // Write
-        1 => {
-            copies[home] = value;
+    match procedure {
+        Proc::Read(p) => copies[cell * boards + p as usize],
+        Proc::Write(p, value) => {
+            copies[cell * boards + p as usize] = value;
             0
         }
-        // Barrier
-        2 => 0,
-        // MtoC
-        3 => {
-            copies[home] = main[cell];
+        Proc::Barrier(_) => 0,
+        Proc::MtoC(p) => {
+            copies[cell * boards + p as usize] = main[cell];
             0
         }
-        // CtoM
-        4 => {
-            main[cell] = copies[home];
+        Proc::CtoM(p) => {
+            main[cell] = copies[cell * boards + p as usize];
             0
         }
-        // CtoC
-        5 => {
-            copies[there] = copies[home];
+        Proc::CtoC(p, q) => {
+            copies[cell * boards + q as usize] = copies[cell * boards + p as usize];
             0
         }
-        // Drop
-        6 => {
-            copies[home] = 0;
+        Proc::Drop(p) => {
+            copies[cell * boards + p as usize] = 0;
             0
         }
-        // Acquire
-        7 => 0,
-        // Release: 8, for a code above it is refused
-        _ => 0,
+        Proc::Acquire(_) => 0,
+        Proc::Release(_) => 0,
     }
 }
 
-// What it stores in the masks.
-pub fn store_masks(masks: &mut [u16], code: u8, board: usize, to: usize, cell: usize)
-    requires { (cell * 3 + 2 < length masks.old) × (board < 16) × (to < 16) × (code ≤ 8) }
-    ensures { StoresMasks masks.old code board to cell masks.new }
+// The board is put into the mask at a place.
+fn put(masks: &mut [u16], at: usize, board: u8)
+    requires { (at < length masks.old) × (board < 16) }
+    ensures { masks.new ≡ slice_set masks.old at (with_board (slice_index masks.old at) board) }
 {
-    let live = cell * protocol::MASKS_PER_CELL;
+    let mask = Mask { bits: masks[at] };
+    masks[at] = mask.with(Board { number: board }).bits;
+}
+
+// The board is taken out of the mask at a place.
+fn take(masks: &mut [u16], at: usize, board: u8)
+    requires { (at < length masks.old) × (board < 16) }
+    ensures { masks.new ≡ slice_set masks.old at (without_board (slice_index masks.old at) board) }
+{
+    let mask = Mask { bits: masks[at] };
+    masks[at] = mask.without(Board { number: board }).bits;
+}
+
+// What an accepted action stores in the masks.
+pub fn store_masks(masks: &mut [u16], procedure: Proc, cell: usize)
+    requires { (cell * 3 + 2 < length masks.old) × EachBoard (λ p. p < 16) procedure }
+    ensures { StoresMasks masks.old cell procedure masks.new }
+{
+    let live = cell * MASKS_PER_CELL;
     let dirty = live + 1;
     let lock = live + 2;
-    match code {
-        // Read
-        0 => {}
-        // Write
-        1 => mask::receive(masks, live, board, true),
-        // Barrier
-        2 => {}
-        // MtoC
-        3 => mask::receive(masks, live, board, false),
-        // CtoM
-        4 => {
-            masks[dirty] = mask::without_board(masks[dirty], board);
+    match procedure {
+        Proc::Read(_) => {}
+        Proc::Write(p, _) => {
+            put(masks, live, p);
+            put(masks, dirty, p);
         }
-        // CtoC
-        5 => mask::receive(masks, live, to, false),
-        // Drop
-        6 => {
-            masks[live] = mask::without_board(masks[live], board);
-        }
-        // Acquire
-        7 => {
-            masks[lock] = mask::with_board(masks[lock], board);
-        }
-        // Release: 8, for a code above it is refused
-        _ => {
-            masks[lock] = mask::without_board(masks[lock], board);
-        }
+        Proc::Barrier(_) => {}
+        Proc::MtoC(p) => put(masks, live, p),
+        Proc::CtoM(p) => take(masks, dirty, p),
+        Proc::CtoC(_, q) => put(masks, live, q),
+        Proc::Drop(p) => take(masks, live, p),
+        Proc::Acquire(p) => put(masks, lock, p),
+        Proc::Release(p) => take(masks, lock, p),
     }
 }

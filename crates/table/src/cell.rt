@@ -1,82 +1,42 @@
-// One cell of a table: its masks, its current value, whether it is sound.
-ghost use Rattle.std.specs.Prelude.{◌≡◌, ◌+◌, ◌*◌, ◌<◌, ◌≤◌, ◌^◌, length};
-ghost use Rattle.table.specs.Code.{MasksAt, current_at, masks_sound, copy_sound, copies_sound};
+// One cell: its masks, and whether these and a copy are sound.
+ghost use Rattle.std.specs.Prelude.{◌≡◌, ◌≤◌};
+ghost use Rattle.protocol.specs.Names.{rule_number};
+ghost use Rattle.table.specs.Code.{masks_sound, copy_sound};
 
-use crate::mask;
+use crate::mask::{Board, Mask};
+use protocol::Rule;
 
-#[derive(Clone, Copy)]
+#[derive(Clone, Copy, Debug, PartialEq, Eq)]
 pub struct Masks {
-    pub live: u16,
-    pub dirty: u16,
-    pub lock: u16,
+    pub live: Mask,
+    pub dirty: Mask,
+    pub lock: Mask,
 }
 
-pub fn masks_at(masks: &[u16], cell: usize) -> Masks
-    requires { (cell < 512) × (cell * 3 + 2 < length masks.now) }
-    ensures { MasksAt masks.now cell result.live result.dirty result.lock }
-{
-    let at = cell * protocol::MASKS_PER_CELL;
-    Masks {
-        live: masks[at],
-        dirty: masks[at + 1],
-        lock: masks[at + 2],
+impl Masks {
+    // What the masks alone show, each condition by whole masks: no bit at P or above, no lock below rule 3, then Inv2, Inv3, Inv5, Inv6, Inv7.
+    // With at most one lock, "when p has the lock no other board is live" says: nobody has the lock, or every live board has it.
+    #[tactic(auto, unfolding(crate::specs::Code::masks_sound, protocol::specs::Names::rule_number))]
+    pub fn are_sound(self, rule: Rule, boards: usize) -> bool
+        requires { boards ≤ 16 }
+        ensures { result ≡ masks_sound (rule_number rule) boards self.live.bits self.dirty.bits self.lock.bits }
+    {
+        (self.live.is_below(boards) & self.dirty.is_below(boards) & self.lock.is_below(boards))
+            & (Rule::CurrentCaches.is_before(rule) | self.lock.is_empty())
+            & self.dirty.is_within(self.live)
+            & (rule.is_before(Rule::GlobalImpl) | (self.dirty.count() <= 1))
+            & (rule.is_before(Rule::ExclusiveLocks0)
+                | ((self.lock.count() <= 1)
+                    & (self.lock.is_empty() | self.live.is_within(self.lock))))
+            & (rule.is_before(Rule::ExclusiveLocks) | self.dirty.is_within(self.lock))
     }
-}
-
-// The dirty copy if there is one, else main.
-pub fn current(boards: usize, main: &[u32], copies: &[u32], cell: usize, dirty: u16) -> u32
-    requires { (boards ≤ 16) × (cell < 512) × (cell < length main.now) × (cell * boards + boards ≤ length copies.now) × (dirty < 2 ^ boards) }
-    ensures { result ≡ current_at boards cell dirty main.now copies.now }
-{
-    if dirty == 0 {
-        return main[cell];
-    }
-    let board = u16::trailing_zeros(dirty) as usize;
-    copies[cell * boards + board]
-}
-
-// What the masks alone show, each condition by whole masks: no bit at P or above, no lock below rule 3, then Inv2, Inv3, Inv5, Inv6, Inv7.
-// With at most one lock, "when p has the lock no other board is live" says: nobody has the lock, or every live board has it.
-pub fn masks_sound(rule: u8, boards: usize, m: Masks) -> bool
-    requires { boards ≤ 16 }
-    ensures { result ≡ masks_sound rule boards m.live m.dirty m.lock }
-{
-    mask::is_below(m.live | m.dirty | m.lock, boards)
-        & ((rule > 2) | (m.lock == 0))
-        & mask::is_within(m.dirty, m.live)
-        & ((rule < 1) | (u16::count_ones(m.dirty) <= 1))
-        & ((rule < 3)
-            | ((u16::count_ones(m.lock) <= 1) & ((m.lock == 0) | mask::is_within(m.live, m.lock))))
-        & ((rule < 4) | mask::is_within(m.dirty, m.lock))
 }
 
 // What one board's copy shows, beside the current value.
-pub fn copy_sound(rule: u8, live: u16, copy: u32, current: u32, board: usize) -> bool
-    requires { board < 16 }
-    ensures { result ≡ copy_sound rule live copy current board }
+#[tactic(auto, unfolding(crate::specs::Code::copy_sound, protocol::specs::Names::rule_number))]
+pub fn copy_sound(rule: Rule, live: Mask, copy: u32, current: u32, board: Board) -> bool
+    ensures { result ≡ copy_sound (rule_number rule) live.bits copy current board.number }
 {
-    let is_live = mask::has_board(live, board);
-    (is_live | (copy == 0)) & ((rule < 2) | (!is_live | (copy == current)))
-}
-
-// What all the copies of a cell show. None is left out where one fails: with one way out the loop runs fastest.
-pub fn copies_sound(
-    rule: u8,
-    boards: usize,
-    copies: &[u32],
-    cell: usize,
-    live: u16,
-    current: u32,
-) -> bool
-    requires { (boards ≤ 16) × (cell * boards + boards ≤ length copies.now) }
-    ensures { result ≡ copies_sound rule boards cell live current copies.now boards }
-{
-    let mut sound = true;
-    let mut board = 0;
-    while board < boards {
-        let copy = copies[cell * boards + board];
-        sound = copy_sound(rule, live, copy, current, board) & sound;
-        board += 1;
-    }
-    sound
+    let is_live = live.has(board);
+    (is_live | (copy == 0)) & (rule.is_before(Rule::CurrentCaches) | (!is_live | (copy == current)))
 }

@@ -2,42 +2,38 @@
 #![tactic(auto)]
 
 ghost use Rattle.std.specs.Prelude.{◌≡◌};
+ghost use Rattle.protocol.specs.Replies.{answer_of, done_of};
 ghost use Rattle.protocol.specs.Slices.{table_of, in_range, sizes_good};
 ghost use Rattle.table.specs.Statements.{Freshens, Checks, Steps};
 
 mod action;
 mod cell;
-mod fill;
 mod mask;
 mod rules;
+mod view;
 
-use protocol::{Action, Answer};
-
-// What a whole-table check finds: every cell sound, the lowest-numbered cell that is not, or a refusal's number.
-#[derive(Clone, Copy)]
-pub enum Checked {
-    Sound,
-    Unsound(usize),
-    Refused(u8),
-}
+use crate::mask::Board;
+use crate::view::View;
+use protocol::{Action, MASKS_PER_CELL, Refused, Rule};
 
 // P is 1 to 16, and N is 1 to 512.
+#[tactic(auto, unfolding(protocol::specs::Slices::in_range))]
 pub fn in_range(boards: usize, cells: usize) -> bool
     ensures { result ≡ in_range boards cells }
 {
-    ((1 <= boards) & (boards <= 16)) & ((1 <= cells) & (cells <= 512))
+    (1..=16).contains(&boards) && (1..=512).contains(&cells)
 }
 
-// P and N are in range, and each slice has exactly its length.
+// P and N are in range, and each slice has exactly its length. The range is judged first, so that no product wraps.
 pub fn sizes_good(boards: usize, cells: usize, main: &[u32], copies: &[u32], masks: &[u16]) -> bool
     ensures { result ≡ sizes_good boards cells (table_of main.now copies.now masks.now) }
 {
-    // The range first, so that no product wraps.
     if !in_range(boards, cells) {
         return false;
     }
     (main.len() == cells)
-        & ((copies.len() == cells * boards) & (masks.len() == cells * protocol::MASKS_PER_CELL))
+        & (copies.len() == cells * boards)
+        & (masks.len() == cells * MASKS_PER_CELL)
 }
 
 // A fresh table: main is `starting`, every copy and mask is 0.
@@ -48,31 +44,22 @@ pub fn fresh(
     main: &mut [u32],
     copies: &mut [u32],
     masks: &mut [u16],
-) -> Answer
-    ensures { Freshens boards cells (table_of main.old copies.old masks.old) starting.now result (table_of main.new copies.new masks.new) }
+) -> Result<(), Refused>
+    ensures { Freshens boards cells (table_of main.old copies.old masks.old) starting.now (done_of result) (table_of main.new copies.new masks.new) }
 {
     if !sizes_good(boards, cells, main, copies, masks) {
-        return Answer {
-            number: protocol::BAD_SIZES,
-            value: 0,
-        };
+        return Err(Refused::BadSizes);
     }
     if starting.len() != cells {
-        return Answer {
-            number: protocol::BAD_SIZES,
-            value: 0,
-        };
+        return Err(Refused::BadSizes);
     }
-    fill::copy_all(starting, main);
-    fill::clear_values(copies);
-    fill::clear_masks(masks);
-    Answer {
-        number: protocol::ACCEPTED,
-        value: 0,
-    }
+    main.copy_from_slice(starting);
+    copies.fill(0);
+    masks.fill(0);
+    Ok(())
 }
 
-// Sound, or the lowest-numbered cell that is not: one pass over the cells, and at each over its boards.
+// Sound, which is `None`, or the lowest-numbered cell that is not: one pass over the cells, and at each over its boards.
 pub fn check(
     rule: u8,
     boards: usize,
@@ -80,39 +67,34 @@ pub fn check(
     main: &[u32],
     copies: &[u32],
     masks: &[u16],
-) -> Checked
+) -> Result<Option<usize>, Refused>
     ensures { Checks boards cells (table_of main.now copies.now masks.now) rule result }
 {
-    if !sizes_good(boards, cells, main, copies, masks) {
-        return Checked::Refused(protocol::BAD_SIZES);
-    }
-    if rule > protocol::LAST_RULE {
-        return Checked::Refused(protocol::BAD_RULE);
-    }
-    let mut answer = Checked::Sound;
-    let mut cell = 0;
-    'cells: while cell < cells {
-        let m = cell::masks_at(masks, cell);
-        if !cell::masks_sound(rule, boards, m) {
-            answer = Checked::Unsound(cell);
+    let view = View::new(boards, cells, main, copies, masks)?;
+    let ruled = Rule::try_from(rule)?;
+    let mut found = None;
+    'cells: for cell in 0..view.cells {
+        let m = view.masks_at(cell);
+        if !m.are_sound(ruled, view.boards) {
+            found = Some(cell);
             break 'cells;
         }
-        let now = cell::current(boards, main, copies, cell, m.dirty);
-        let mut board = 0;
-        'boards: while board < boards {
-            let copy = copies[cell * boards + board];
-            if !cell::copy_sound(rule, m.live, copy, now, board) {
-                answer = Checked::Unsound(cell);
+        let now = view.current(cell, m.dirty);
+        'boards: for board in 0..view.boards {
+            let copy = view.copy_at(cell, board);
+            let board = Board {
+                number: board as u8,
+            };
+            if !cell::copy_sound(ruled, m.live, copy, now, board) {
+                found = Some(cell);
                 break 'cells;
             }
-            board += 1;
         }
-        cell += 1;
     }
-    answer
+    Ok(found)
 }
 
-// One action on a table: its answer, and the table after it. A refusal changes nothing.
+// One action on a table: its answer's value, and the table after it. A refusal changes nothing.
 pub fn step(
     rule: u8,
     boards: usize,
@@ -121,18 +103,12 @@ pub fn step(
     copies: &mut [u32],
     masks: &mut [u16],
     action: Action,
-) -> Answer
-    ensures { Steps boards cells (table_of main.old copies.old masks.old) rule action result (table_of main.new copies.new masks.new) }
+) -> Result<u32, Refused>
+    ensures { Steps boards cells (table_of main.old copies.old masks.old) rule action (answer_of result) (table_of main.new copies.new masks.new) }
 {
-    let number = action::refusal(rule, boards, cells, main, copies, masks, action);
-    if number != protocol::ACCEPTED {
-        return Answer { number, value: 0 };
-    }
-    let board = action.board as usize;
-    let to = action.to as usize;
+    let view = View::new(boards, cells, main, copies, masks)?;
+    let procedure = action::judge(&view, rule, action)?;
     let cell = action.cell as usize;
-    let code = action.code;
-    let value = action::store_values(boards, main, copies, code, board, to, cell, action.value);
-    action::store_masks(masks, code, board, to, cell);
-    Answer { number, value }
+    action::store_masks(masks, procedure, cell);
+    Ok(action::store_values(boards, main, copies, procedure, cell))
 }

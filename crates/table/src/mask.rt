@@ -1,60 +1,87 @@
-// A mask's boards: board p is the bit worth 2^p.
-ghost use Rattle.std.specs.Prelude.{◌≡◌, ◌+◌, ◌<◌, ◌≤◌, ◌^◌, ltb, length};
-ghost use Rattle.protocol.specs.Masks.{has_board, with_board, without_board, has_another};
-ghost use Rattle.table.specs.Code.{within, received};
+// A mask of boards: board p is the bit worth 2^p.
+ghost use Rattle.std.specs.Prelude.{◌≡◌, ◌≢◌, ◌<◌, ◌≤◌, ◌^◌, ltb, eqb};
+ghost use Rattle.std.specs.Int.Count.{ones};
+ghost use Rattle.protocol.specs.Masks.{has_board, with_board, without_board, has_another, lowest_board};
+ghost use Rattle.table.specs.Code.{within};
 
-pub fn has_board(mask: u16, board: usize) -> bool
-    requires { board < 16 }
-    ensures { result ≡ has_board mask board }
-{
-    (mask >> board) % 2 == 1
+// A board of some table, which has at most 16.
+#[derive(Clone, Copy)]
+pub struct Board {
+    pub number: u8,
+    ghost low: { number < 16 },
 }
 
-pub fn with_board(mask: u16, board: usize) -> u16
-    requires { board < 16 }
-    ensures { result ≡ with_board mask board }
-{
-    mask | (1 << board)
+#[derive(Clone, Copy, Debug, PartialEq, Eq)]
+pub struct Mask {
+    pub bits: u16,
 }
 
-pub fn without_board(mask: u16, board: usize) -> u16
-    requires { board < 16 }
-    ensures { result ≡ without_board mask board }
-{
-    mask & !(1 << board)
-}
+impl Mask {
+    pub fn is_empty(self) -> bool
+        ensures { result ≡ eqb self.bits 0 }
+    {
+        self.bits == 0
+    }
 
-// Another board than this one is in the mask.
-pub fn has_another(mask: u16, board: usize) -> bool
-    requires { board < 16 }
-    ensures { result ≡ has_another mask board }
-{
-    without_board(mask, board) != 0
-}
+    #[tactic(auto, unfolding(protocol::specs::Masks::has_board))]
+    pub fn has(self, board: Board) -> bool
+        ensures { result ≡ has_board self.bits board.number }
+    {
+        (self.bits >> board.number) % 2 == 1
+    }
 
-// Every board of the mask is in the other.
-pub fn is_within(mask: u16, other: u16) -> bool
-    ensures { result ≡ within mask other }
-{
-    mask & other == mask
-}
+    pub fn with(self, board: Board) -> Mask
+        ensures { result.bits ≡ with_board self.bits board.number }
+    {
+        Mask {
+            bits: self.bits | (1 << board.number),
+        }
+    }
 
-// No board at P or above.
-pub fn is_below(mask: u16, boards: usize) -> bool
-    requires { boards ≤ 16 }
-    ensures { result ≡ ltb mask (2 ^ boards) }
-{
-    (mask as u32) < (1 << boards)
-}
+    pub fn without(self, board: Board) -> Mask
+        ensures { result.bits ≡ without_board self.bits board.number }
+    {
+        Mask {
+            bits: self.bits & !(1 << board.number),
+        }
+    }
 
-// The board gets a copy: it is live and, where the copy was written there, dirty.
-pub fn receive(masks: &mut [u16], live: usize, board: usize, written: bool)
-    requires { (live + 1 < length masks.old) × (board < 16) }
-    ensures { masks.new ≡ received masks.old live board written }
-{
-    masks[live] = with_board(masks[live], board);
-    if written {
-        let dirty = live + 1;
-        masks[dirty] = with_board(masks[dirty], board);
+    // Another board than this one is in the mask.
+    #[tactic(auto, unfolding(protocol::specs::Masks::has_another))]
+    pub fn has_another(self, board: Board) -> bool
+        ensures { result ≡ has_another self.bits board.number }
+    {
+        !self.without(board).is_empty()
+    }
+
+    // Every board of the mask is in the other.
+    #[tactic(auto, unfolding(crate::specs::Code::within))]
+    pub fn is_within(self, other: Mask) -> bool
+        ensures { result ≡ within self.bits other.bits }
+    {
+        self.bits & other.bits == self.bits
+    }
+
+    // No board at P or above.
+    pub fn is_below(self, boards: usize) -> bool
+        requires { boards ≤ 16 }
+        ensures { result ≡ ltb self.bits (2 ^ boards) }
+    {
+        (self.bits as u32) < (1 << boards)
+    }
+
+    // How many boards are in the mask.
+    pub fn count(self) -> u32
+        ensures { result ≡ ones self.bits }
+    {
+        self.bits.count_ones()
+    }
+
+    // The lowest board of a mask that has one.
+    pub fn lowest(self) -> usize
+        requires { self.bits ≢ 0 }
+        ensures { result ≡ lowest_board self.bits }
+    {
+        self.bits.trailing_zeros() as usize
     }
 }

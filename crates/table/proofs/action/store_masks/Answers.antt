@@ -1,32 +1,30 @@
 -- `store_masks` stores the effect of an accepted action in the masks, arm by arm. Assumes nothing.
-use Rattle.std.proofs.Common.{◌≡◌, arith}
 use Rattle.table.proofs.PerformLaws.{read_masks, write_masks, barrier_masks, mtoc_masks, ctom_masks, ctoc_masks, drop_masks, acquire_masks, release_masks}
 use Rattle.table.proofs.action.store_masks.Goals as goal
 
-pub returns-in-0 : goal.returns-in-0
-returns-in-0 c boards cells value m k y rule = rw c.in-0.is (read_masks _ _ _ _ _ _ _ y rule)
+pub returns-in-Read : goal.returns-in-Read
+returns-in-Read c = rw c.in-Read.is (λ boards cells m k y l. read_masks _ _ _ _ y _)
 
-pub returns-in-1 : goal.returns-in-1
-returns-in-1 c boards cells value m k y rule = rw c.in-1.is (write_masks _ _ _ _ _ _ _ y _ c.receive.ensures rule)
+pub returns-in-Write : goal.returns-in-Write
+returns-in-Write c = rw c.in-Write.is (λ boards cells m k y l. write_masks _ _ _ _ y _ _ _ _ c.put.ensures c.put-in-Write.ensures)
 
-pub returns-in-2 : goal.returns-in-2
-returns-in-2 c boards cells value m k y rule = rw c.in-2.is (barrier_masks _ _ _ _ _ _ _ y rule)
+pub returns-in-Barrier : goal.returns-in-Barrier
+returns-in-Barrier c = rw c.in-Barrier.is (λ boards cells m k y l. barrier_masks _ _ _ _ y _)
 
-pub returns-in-3 : goal.returns-in-3
-returns-in-3 c boards cells value m k y rule = rw c.in-3.is (mtoc_masks _ _ _ _ _ _ _ y _ c.receive-in-3.ensures rule)
+pub returns-in-MtoC : goal.returns-in-MtoC
+returns-in-MtoC c = rw c.in-MtoC.is (λ boards cells m k y l. mtoc_masks _ _ _ _ y _ _ c.put-in-MtoC.ensures)
 
-pub returns-in-4 : goal.returns-in-4
-returns-in-4 c boards cells value m k y rule = rw c.in-4.is (ctom_masks _ _ _ _ _ _ _ y _ c.without_board.ensures rule)
+pub returns-in-CtoM : goal.returns-in-CtoM
+returns-in-CtoM c = rw c.in-CtoM.is (λ boards cells m k y l. ctom_masks _ _ _ _ y _ _ c.take.ensures)
 
-pub returns-in-5 : goal.returns-in-5
-returns-in-5 c boards cells value m k y rule = rw c.in-5.is (ctoc_masks _ _ _ _ _ _ _ y _ c.receive-in-5.ensures rule)
+pub returns-in-CtoC : goal.returns-in-CtoC
+returns-in-CtoC c = rw c.in-CtoC.is (λ boards cells m k y l. ctoc_masks _ _ _ _ y _ _ _ c.put-in-CtoC.ensures)
 
-pub returns-in-6 : goal.returns-in-6
-returns-in-6 c boards cells value m k y rule = rw c.in-6.is (drop_masks _ _ _ _ _ _ _ y _ c.without_board-in-6.ensures rule)
+pub returns-in-Drop : goal.returns-in-Drop
+returns-in-Drop c = rw c.in-Drop.is (λ boards cells m k y l. drop_masks _ _ _ _ y _ _ c.take-in-Drop.ensures)
 
-pub returns-in-7 : goal.returns-in-7
-returns-in-7 c boards cells value m k y rule = rw c.in-7.is (acquire_masks _ _ _ _ _ _ _ y _ c.with_board.ensures rule)
+pub returns-in-Acquire : goal.returns-in-Acquire
+returns-in-Acquire c = rw c.in-Acquire.is (λ boards cells m k y l. acquire_masks _ _ _ _ y _ _ c.put-in-Acquire.ensures)
 
--- the last arm has code 8
-pub returns-in_default : goal.returns-in_default
-returns-in_default c boards cells value m k y rule = let is : c.args.code ≡ 8 = omega (arith, c.requires.3) in rw is (release_masks _ _ _ _ _ _ _ y _ c.without_board-in_default.ensures rule)
+pub returns-in-Release : goal.returns-in-Release
+returns-in-Release c = rw c.in-Release.is (λ boards cells m k y l. release_masks _ _ _ _ y _ _ c.take-in-Release.ensures)

@@ -1,32 +1,30 @@
 -- `store_values` stores the effect of an accepted action in main and the copies, arm by arm. Assumes nothing.
-use Rattle.std.proofs.Common.{◌≡◌, arith}
 use Rattle.table.proofs.PerformLaws.{read_values, write_values, barrier_values, mtoc_values, ctom_values, ctoc_values, drop_values, acquire_values, release_values}
 use Rattle.table.proofs.action.store_values.Goals as goal
 
-pub returns-in-0 : goal.returns-in-0
-returns-in-0 c cells w y = rw c.in-0.is (read_values _ _ _ _ _ _ _ y)
+pub returns-in-Read : goal.returns-in-Read
+returns-in-Read c = rw c.in-Read.is (λ cells w y l. read_values _ _ _ _ y _ l)
 
-pub returns-in-1 : goal.returns-in-1
-returns-in-1 c cells w y = rw c.in-1.is (write_values _ _ _ _ _ _ _ y)
+pub returns-in-Write : goal.returns-in-Write
+returns-in-Write c = rw c.in-Write.is (λ cells w y l. write_values _ _ _ _ y _ _)
 
-pub returns-in-2 : goal.returns-in-2
-returns-in-2 c cells w y = rw c.in-2.is (barrier_values _ _ _ _ _ _ _ y)
+pub returns-in-Barrier : goal.returns-in-Barrier
+returns-in-Barrier c = rw c.in-Barrier.is (λ cells w y l. barrier_values _ _ _ _ y _)
 
-pub returns-in-3 : goal.returns-in-3
-returns-in-3 c cells w y = rw c.in-3.is (mtoc_values _ _ _ _ _ _ _ y)
+pub returns-in-MtoC : goal.returns-in-MtoC
+returns-in-MtoC c = rw c.in-MtoC.is (λ cells w y l. mtoc_values _ _ _ _ y _)
 
-pub returns-in-4 : goal.returns-in-4
-returns-in-4 c cells w y = rw c.in-4.is (ctom_values _ _ _ _ _ _ _ y)
+pub returns-in-CtoM : goal.returns-in-CtoM
+returns-in-CtoM c = rw c.in-CtoM.is (λ cells w y l. ctom_values _ _ _ _ y _ l)
 
-pub returns-in-5 : goal.returns-in-5
-returns-in-5 c cells w y = rw c.in-5.is (ctoc_values _ _ _ _ _ _ _ y)
+pub returns-in-CtoC : goal.returns-in-CtoC
+returns-in-CtoC c = rw c.in-CtoC.is (λ cells w y l. ctoc_values _ _ _ _ y _ _ l.0)
 
-pub returns-in-6 : goal.returns-in-6
-returns-in-6 c cells w y = rw c.in-6.is (drop_values _ _ _ _ _ _ _ y)
+pub returns-in-Drop : goal.returns-in-Drop
+returns-in-Drop c = rw c.in-Drop.is (λ cells w y l. drop_values _ _ _ _ y _)
 
-pub returns-in-7 : goal.returns-in-7
-returns-in-7 c cells w y = rw c.in-7.is (acquire_values _ _ _ _ _ _ _ y)
+pub returns-in-Acquire : goal.returns-in-Acquire
+returns-in-Acquire c = rw c.in-Acquire.is (λ cells w y l. acquire_values _ _ _ _ y _)
 
--- the last arm has code 8
-pub returns-in_default : goal.returns-in_default
-returns-in_default c cells w y = let is : c.args.code ≡ 8 = omega (arith, c.requires.3) in rw is (release_values _ _ _ _ _ _ _ y)
+pub returns-in-Release : goal.returns-in-Release
+returns-in-Release c = rw c.in-Release.is (λ cells w y l. release_values _ _ _ _ y _)

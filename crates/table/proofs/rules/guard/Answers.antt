@@ -1,42 +1,30 @@
 -- `guard` gives the number of the guard table, arm by arm. Assumes nothing.
-use Rattle.std.proofs.Common.{◌≡◌, arith}
-use Rattle.protocol.specs.Names.{proc_of}
-use Rattle.protocol.proofs.GuardRows.{gives_read, gives_write, gives_barrier, gives_mtoc, gives_ctom, gives_ctoc, gives_drop, gives_acquire, gives_release}
+use Rattle.table.proofs.GuardLaws.{read_tests, write_tests, barrier_tests, mtoc_tests, ctom_tests, ctoc_tests, drop_tests, acquire_tests, release_tests}
 use Rattle.table.proofs.rules.guard.Goals as goal
 
-pub returns-in-0 : goal.returns-in-0
-unfolding proc_of
-returns-in-0 c = λ x hl hd ho hk hn. rw (c.in-0.is, c.refuse-in-0.ensures, c.refuse.ensures, c.has_board-live.ensures, ← hl, ← hk, ← hn) (gives_read x _ _ c.requires.0)
+pub returns-in-Read : goal.returns-in-Read
+returns-in-Read c = let has = rw c.in-Read.is at c.requires.0 in rw c.in-Read.is (λ x hl hd ho hk hn. rw (c.first.ensures, c.has.ensures, c.eq.ensures, ← hl, ← hk, ← hn) (read_tests x _ _ has))
 
-pub returns-in-1 : goal.returns-in-1
-unfolding proc_of
-returns-in-1 c = λ x hl hd ho hk hn. rw (c.in-1.is, c.refuse-in-1-3.ensures, c.refuse-in-1-2.ensures, c.refuse-in-1.ensures, c.has_another-another_live.ensures, c.has_board-dirty.ensures, c.has_another-another_dirty.ensures, c.has_board-lock.ensures, ← hd, ← hl, ← ho) (gives_write x _ _ _ c.requires.0)
+pub returns-in-Write : goal.returns-in-Write
+returns-in-Write c = let has = rw c.in-Write.is at c.requires.0 in rw c.in-Write.is (λ x hl hd ho hk hn. rw (c.first-in-Write.ensures, c.eq-in-Write.ensures, c.has-in-Write.ensures, c.has_another.ensures, c.eq-in-Write-2.ensures, c.has_another-in-Write.ensures, c.is_before-no_locks.ensures, c.has-in-Write-2.ensures, ← hd, ← hl, ← ho) (write_tests x _ _ _ has))
 
-pub returns-in-2 : goal.returns-in-2
-unfolding proc_of
-returns-in-2 c = λ x hl hd ho hk hn. rw (c.in-2.is, c.refuse-in-2.ensures, c.has_board-live.ensures, ← hl) (gives_barrier x _ _ c.requires.0 (rw c.in-2.is at c.requires.3))
+pub returns-in-Barrier : goal.returns-in-Barrier
+returns-in-Barrier c = let has = rw c.in-Barrier.is at c.requires.0 in rw c.in-Barrier.is (λ x hl hd ho hk hn. rw (c.first-in-Barrier.ensures, c.has-in-Barrier.ensures, ← hl) (barrier_tests x _ _ has))
 
-pub returns-in-3 : goal.returns-in-3
-unfolding proc_of
-returns-in-3 c = λ x hl hd ho hk hn. rw (c.in-3.is, c.refuse-in-3-3.ensures, c.refuse-in-3-2.ensures, c.refuse-in-3.ensures, c.has_board-dirty.ensures, c.has_another-another_dirty.ensures, c.has_another-another_lock.ensures, ← hd, ← ho) (gives_mtoc x _ _ c.requires.0)
+pub returns-in-MtoC : goal.returns-in-MtoC
+returns-in-MtoC c = let has = rw c.in-MtoC.is at c.requires.0 in rw c.in-MtoC.is (λ x hl hd ho hk hn. rw (c.first-in-MtoC.ensures, c.has-in-MtoC.ensures, c.eq-in-MtoC.ensures, c.eq-in-MtoC-2.ensures, c.has_another-in-MtoC.ensures, c.is_before-no_locks.ensures, c.has_another-in-MtoC-2.ensures, ← hd, ← ho) (mtoc_tests x _ _ has))
 
-pub returns-in-4 : goal.returns-in-4
-unfolding proc_of
-returns-in-4 c = λ x hl hd ho hk hn. rw (c.in-4.is, c.refuse-in-4.ensures, c.has_board-dirty.ensures, ← hd) (gives_ctom x _ _ c.requires.0)
+pub returns-in-CtoM : goal.returns-in-CtoM
+returns-in-CtoM c = let has = rw c.in-CtoM.is at c.requires.0 in rw c.in-CtoM.is (λ x hl hd ho hk hn. rw (c.first-in-CtoM.ensures, c.has-in-CtoM.ensures, ← hd) (ctom_tests x _ _ has))
 
-pub returns-in-5 : goal.returns-in-5
-unfolding proc_of
-returns-in-5 c = λ x hl hd ho hk hn. rw (c.in-5.is, c.refuse-in-5-3.ensures, c.refuse-in-5-2.ensures, c.refuse-in-5.ensures, c.has_board-to_dirty.ensures, c.has_board-live.ensures, ← hd, ← hl, ← ho) (gives_ctoc x _ _ _ c.requires.0)
+pub returns-in-CtoC : goal.returns-in-CtoC
+returns-in-CtoC c = let has = rw c.in-CtoC.is at c.requires.0 in rw c.in-CtoC.is (λ x hl hd ho hk hn. rw (c.first-in-CtoC.ensures, c.is_before-no_locks.ensures, c.is_empty.ensures, c.has-in-CtoC.ensures, c.has-in-CtoC-2.ensures, ← hd, ← hl, ← ho) (ctoc_tests x _ _ _ has))
 
-pub returns-in-6 : goal.returns-in-6
-unfolding proc_of
-returns-in-6 c = λ x hl hd ho hk hn. rw (c.in-6.is, c.refuse-in-6.ensures, c.has_board-dirty.ensures, ← hd) (gives_drop x _ _ c.requires.0)
+pub returns-in-Drop : goal.returns-in-Drop
+returns-in-Drop c = let has = rw c.in-Drop.is at c.requires.0 in rw c.in-Drop.is (λ x hl hd ho hk hn. rw (c.first-in-Drop.ensures, c.has-in-Drop.ensures, ← hd) (drop_tests x _ _ has))
 
-pub returns-in-7 : goal.returns-in-7
-unfolding proc_of
-returns-in-7 c = λ x hl hd ho hk hn. rw (c.in-7.is, c.refuse-in-7-2.ensures, c.refuse-in-7.ensures, c.has_another-another_live.ensures, ← hl, ← ho) (gives_acquire x _ _ c.requires.0 (rw c.in-7.is at c.requires.3))
+pub returns-in-Acquire : goal.returns-in-Acquire
+returns-in-Acquire c = let has = rw c.in-Acquire.is at c.requires.0 in rw c.in-Acquire.is (λ x hl hd ho hk hn. rw (c.first-in-Acquire.ensures, c.is_empty-in-Acquire.ensures, c.has_another-in-Acquire.ensures, ← hl, ← ho) (acquire_tests x _ _ has))
 
--- the last arm has code 8
-pub returns-in_default : goal.returns-in_default
-unfolding proc_of
-returns-in_default c = λ x hl hd ho hk hn. let is : c.args.a.code ≡ 8 = omega (arith, c.requires.4) in rw (is, c.refuse-in_default.ensures, c.has_board-dirty.ensures, ← hd) (gives_release x _ _ c.requires.0 (rw is at c.requires.3))
+pub returns-in-Release : goal.returns-in-Release
+returns-in-Release c = let has = rw c.in-Release.is at c.requires.0 in rw c.in-Release.is (λ x hl hd ho hk hn. rw (c.first-in-Release.ensures, c.eq-in-Release.ensures, c.has-in-Release.ensures, ← hd) (release_tests x _ _ has))
