@@ -1,9 +1,8 @@
 -- Counts that grow from below, and the stale copies by the numbers in the slices. Assumes nothing.
 use mathlib.Core.Path.{◌≡◌, refl, sym, ◌∙◌}
 use mathlib.Core.List.{List, [], ◌∷◌}
-use mathlib.Core.Bool.{Bool, true, false, cond, ◌&&◌}
-use mathlib.Core.Logic.{◌≢◌}
-use Prim.Native.Nat.{ℕ, zero, suc, ◌+◌, ◌*◌, ◌/◌, ◌%◌, ◌^◌, ◌<◌, ◌≤◌}
+use mathlib.Core.Bool.{Bool, true, false, cond}
+use Prim.Native.Nat.{ℕ, zero, suc, ◌+◌, ◌*◌, ◌<◌, ◌≤◌}
 use native.Mathlib.Omega.{arith}
 use native.Mathlib.Numerals.{add-one}
 use lib.ListN.{length, get_or}
@@ -12,8 +11,6 @@ use Rattle.std.proofs.Common.{zero-add, add-zero}
 use Rattle.sessions.proofs.RunLaws.{one_at_most}
 use Rattle.std.proofs.Math.Nat.{add-mul, mul-le-mul_right}
 use Rattle.std.proofs.lemmas.List.Edits.{length-between, get_or-between}
-use borrow.Author.Tests.{eq-eqb, ne_eqb}
-use Rattle.protocol.specs.Masks.{has_board}
 use Rattle.protocol.specs.Slices.{copies, masks, Table, sizes_good}
 use Rattle.table.proofs.ReadyLaws.{ready, copy_is, live_is}
 use Rattle.sessions.specs.Run.{is_stale, count_below, sum_below, stale_in}
