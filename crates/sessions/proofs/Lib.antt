@@ -1,10 +1,8 @@
 -- The laws and the promises. Assumes nothing.
 pub mod BytesLaws
 pub mod RefusalLaws
-pub mod ReadLaws
 pub mod AcceptedLaws
 pub mod WrittenLaws
-pub mod WriteLaws
 pub mod TripLaws
 pub mod RoundTrip
 pub mod RecordTrip

@@ -1,14 +1,14 @@
 -- Bytes put into a list from a place on: nothing, one more, a run behind another, and all of a file. Assumes nothing.
 use mathlib.Core.Path.{◌≡◌, refl, ap, sym, ◌∙◌}
 use mathlib.Core.List.{List, [], ◌∷◌, ◌++◌, append_assoc}
-use Prim.Native.Nat.{ℕ, suc, ◌+◌, ◌*◌, ◌<◌, ◌≤◌}
+use Prim.Native.Nat.{ℕ, ◌+◌, ◌*◌, ◌<◌, ◌≤◌}
 use native.Mathlib.Numerals.{add-one}
 use native.Mathlib.Omega.{arith}
 use native.Mathlib.Nat.{add-zero}
-use lib.ListN.{length, get_or, take, drop, set, length-append, take-append-drop}
-use lib.Seq.{drop-cons, set_at, length-take-le, take-suc, take_at, drop-append-add, drop-drop, sets, sets-eq}
+use lib.ListN.{length, get_or, take, drop, length-append, take-append-drop}
+use lib.Seq.{length-take-le, take-suc, take_at, drop-append-add, drop-drop}
 use Rattle.std.specs.Int.{w16, w32, to_le_bytes}
-use Rattle.std.proofs.Common.{Fits, ◌^◌, ◌/◌, ◌%◌}
+use Rattle.std.proofs.Common.{Fits, ◌/◌, ◌%◌}
 use Rattle.sessions.specs.File.{mark, two, four, packed, headed, file_of, records_at}
 use Rattle.sessions.specs.Written.{written}
 

@@ -108,8 +108,7 @@ pub fn run(
 ) -> Result<Report, Refused>
     ensures { Runs file.now (table_of main.old copies.old masks.old) numbers.old values.old (run_reply result) (table_of main.new copies.new masks.new) numbers.new values.new }
 {
-    let head =
-        refusals::judged_to_run(file, main, copies, masks, numbers.len(), values.len())?;
+    let head = refusals::judged_to_run(file, main, copies, masks, numbers.len(), values.len())?;
     let mut places = [0u32; 512];
     // For each cell the latest accepted write to it, or its starting value.
     let latest = &mut places[..head.cells];
@@ -117,8 +116,7 @@ pub fn run(
     // The sizes were judged, so this refuses nothing.
     table::fresh(head.boards, head.cells, latest, main, copies, masks)?;
     let records = bytes::part_from(file, head.from);
-    let accepted =
-        records::step_all(head, records, main, copies, masks, numbers, values, latest);
+    let accepted = records::step_all(head, records, main, copies, masks, numbers, values, latest);
     let stale = stale::count(head.boards, copies, masks, latest);
     Ok(Report { accepted, stale })
 }

@@ -8,11 +8,12 @@ ghost use Rattle.sessions.specs.Code.{Noted, Prepared, Ran};
 use crate::Head;
 use protocol::{Action, Answer, Refused};
 
-// A record as an action.
-fn action_of(record: &[u8; 9]) -> Action
-    ensures { result ≡ action_at record.now 0 }
+// The nine bytes of a record, as an action.
+#[tactic(auto, unfolding(crate::specs::File::le16, crate::specs::File::le32, crate::specs::File::action_at))]
+fn action_of(nine: &[u8; 9]) -> Action
+    ensures { result ≡ action_at nine.now 0 }
 {
-    let [code, board, to, cell_low, cell_high, v0, v1, v2, v3] = *record;
+    let [code, board, to, cell_low, cell_high, v0, v1, v2, v3] = *nine;
     Action {
         code,
         board,
@@ -54,7 +55,15 @@ pub fn step_all(
     let mut accepted = 0;
     for (i, record) in records.iter().enumerate() {
         let action = action_of(record);
-        let told = table::step(head.rule, head.boards, head.cells, main, copies, masks, action);
+        let told = table::step(
+            head.rule,
+            head.boards,
+            head.cells,
+            main,
+            copies,
+            masks,
+            action,
+        );
         accepted += note(action, told, latest);
         let answer = Answer::from(told);
         numbers[i] = answer.number;

@@ -12,6 +12,7 @@ use crate::{Head, bytes};
 use protocol::{Refused, Rule};
 
 // Too short for its first nine bytes, no mark, or another version.
+#[tactic(auto, unfolding(crate::specs::FileRefusals::head_refusals), using(crate::proofs::BytesLaws::mark_leads))]
 fn judged_head(file: &[u8]) -> Result<Head, Refused>
     ensures { Judged file.now (head_refusals file.now) result }
 {
@@ -52,7 +53,7 @@ fn body_bad(file: &[u8], from: usize) -> bool
 }
 
 // Bad sizes, no such rule, or a bad body.
-#[tactic(auto, unfolding(crate::specs::FileRefusals::body_refusals))]
+#[tactic(auto, unfolding(crate::specs::FileRefusals::body_refusals), using(table::proofs::ProcedureLaws::low_number))]
 fn judge_body(sizes_bad: bool, rule: u8, body_bad: bool) -> Result<(), Refused>
     ensures { number_of_reply result ≡ first_number (body_refusals sizes_bad rule body_bad) }
 {
@@ -67,6 +68,7 @@ fn judge_body(sizes_bad: bool, rule: u8, body_bad: bool) -> Result<(), Refused>
 }
 
 // A file to read, where so many places are lent for its starting values.
+#[tactic(auto, using(crate::proofs::RefusalLaws::read_head, crate::proofs::RefusalLaws::read_body))]
 pub fn judged_to_read(file: &[u8], lent: usize) -> Result<Head, Refused>
     ensures { Judged file.now (read_refusals file.now lent) result }
 {
@@ -77,6 +79,7 @@ pub fn judged_to_read(file: &[u8], lent: usize) -> Result<Head, Refused>
 }
 
 // A session to write. The sizes and lengths are judged before they are summed, so that no sum wraps.
+#[tactic(auto, using(crate::proofs::RefusalLaws::write_body, crate::proofs::RefusalLaws::write_short, crate::proofs::RefusalLaws::write_roomy))]
 pub fn judge_to_write(
     rule: u8,
     boards: usize,

@@ -8,14 +8,11 @@ fn at_cell(live: u16, copies: &[u32], latest: u32) -> usize
     requires { length copies.now ≤ 16 }
     ensures { (result ≡ count_below (length copies.now) (λ p. is_stale live p (get_or copies.now p 0) latest)) × (result ≤ length copies.now) }
 {
-    let mut stale = 0;
-    for (board, copy) in copies.iter().enumerate() {
-        let lives = (live >> board) % 2 == 1;
-        if lives && *copy != latest {
-            stale += 1;
-        }
-    }
-    stale
+    copies
+        .iter()
+        .enumerate()
+        .filter(|(board, copy)| (live >> *board) % 2 == 1 && **copy != latest)
+        .count()
 }
 
 // The stale copies of all cells, where the table's lengths are right; `latest` has a place for each cell.

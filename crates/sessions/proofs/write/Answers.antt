@@ -1,7 +1,7 @@
 -- `write` judges everything before it stores the header, the values and the records. Assumes nothing.
-use Rattle.std.proofs.Common.{sym, ◌∙◌, arith}
+use Rattle.std.proofs.Common.{length, refl, sym, ◌∙◌, arith}
 use Rattle.sessions.proofs.AcceptedLaws.{writable}
-use Rattle.sessions.proofs.WriteLaws.{accepted}
+use Rattle.sessions.proofs.WrittenLaws.{written_file}
 use Rattle.sessions.proofs.write.Goals as goal
 
 pub put_header-requires : goal.put_header-requires
@@ -17,4 +17,11 @@ pub put_bytes-requires : goal.put_bytes-requires
 put_bytes-requires c = let f = (writable _ _ _ _ _ _).0 (sym c.in_ok-judge_to_write.ensures) in omega (arith, f.roomy, c.put_header.auto.out, c.put_values.auto.out, c.records_at.ensures)
 
 pub returns : goal.returns
-returns c = accepted _ _ _ _ _ _ c.in_ok-judge_to_write.ensures _ _ _ c.put_header.ensures c.put_values.ensures (c.put_bytes.ensures ∙ rw c.records_at.ensures)
+returns c =
+    let f = (writable _ _ _ _ _ _).0 (sym c.in_ok-judge_to_write.ensures) in
+    let whole = written_file c.args.rule c.args.boards (length c.args.starting.now) c.args.starting.now c.args.records.now c.args.out.now (omega (arith, f.roomy, f.sizes.matching)) in
+    record {
+      number_is = c.in_ok-judge_to_write.ensures;
+      value_is = refl;
+      bytes = c.put_bytes.ensures ∙ rw (c.records_at.ensures, c.put_values.ensures, c.put_header.ensures, ← f.sizes.matching) whole;
+    }

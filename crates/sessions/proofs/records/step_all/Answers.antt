@@ -1,5 +1,5 @@
 -- `step_all` performs the records in order. Assumes nothing.
-use Rattle.std.proofs.Common.{refl, ap, ◌∙◌, arith}
+use Rattle.std.proofs.Common.{◌∙◌, arith}
 use Rattle.sessions.specs.File.{actions}
 use Rattle.sessions.proofs.RanLaws.{noted_few, ran_none, ran_turn, accepted_inside, cut_out}
 use Rattle.sessions.proofs.records.step_all.Goals as goal

@@ -1,5 +1,5 @@
 -- after i turns the first i records are performed. Assumes nothing.
-use Rattle.std.proofs.Common.{◌≤◌, length, ◌≡◌}
+use Rattle.std.proofs.Common.{◌≤◌}
 use Rattle.protocol.specs.Slices.{table_of}
 use Rattle.sessions.specs.File.{actions}
 use Rattle.sessions.specs.Code.{Ran}
