@@ -13,7 +13,7 @@ use lib.Seq.{get_or-drop}
 use Rattle.protocol.specs.declared.Action.{Action}
 use Rattle.protocol.specs.First.{first_number}
 use Rattle.protocol.specs.Slices.{Slice, main, copies, masks, Table, table_of, width, in_range, sizes_good}
-use Rattle.protocol.proofs.Booleans.{clash, or_right}
+use Rattle.protocol.proofs.Booleans.{or_right}
 use Rattle.protocol.proofs.InWords.{range_exactly, sizes_exactly}
 use Rattle.sessions.specs.File.{Below, marked, version_in, rule_in, boards_in, cells_in, action_at, records_at}
 use Rattle.sessions.specs.FileRefusals.{head_refusals, body_refusals, records_bad, body_bad, read_refusals, count_in, run_refusals}

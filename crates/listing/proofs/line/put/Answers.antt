@@ -1,8 +1,8 @@
 -- `put` puts each number and the byte behind it. Assumes nothing.
-use Rattle.std.proofs.Common.{◌≡◌, ◌+◌, ◌<◌, ◌≤◌, drop, length, refl, sym, ◌∙◌, length-set, arith}
+use Rattle.std.proofs.Common.{◌≡◌, ◌+◌, ◌<◌, drop, length, refl, sym, ◌∙◌, length-set, arith}
 use Rattle.listing.specs.Listing.{behind}
-use Rattle.listing.proofs.LineLaws.{so_far, so_far_none, so_far_all, number, room_number, one_behind, behind_more, behind_last}
-use Rattle.listing.proofs.OverwrittenLaws.{overwritten_none, length_out, room_behind, put_behind, length_behind}
+use Rattle.listing.proofs.LineLaws.{so_far, so_far_none, so_far_all, room_number, one_behind, behind_more, behind_last}
+use Rattle.listing.proofs.OverwrittenLaws.{overwritten_none, room_behind, put_behind, length_behind}
 use Rattle.listing.proofs.line.put.Goals.{After-put-end, then-i-numbers, else-i-numbers}
 use Rattle.listing.proofs.line.put.Goals as goal
 

@@ -1,8 +1,8 @@
 -- `list` puts the word and the number, where there is room. Assumes nothing.
-use Rattle.std.proofs.Common.{◌≡◌, [], ◌∷◌, ◌++◌, ◌+◌, ◌≤◌, length, drop, List, ℕ, refl, ap, sym, ◌∙◌, arith}
+use Rattle.std.proofs.Common.{◌≡◌, [], ◌∷◌, ◌++◌, ◌+◌, ◌≤◌, length, drop, List, ℕ, refl, ap, ◌∙◌, arith}
 use Rattle.protocol.specs.Replies.{reply_number}
 use Rattle.listing.specs.Code.{overwritten}
-use Rattle.listing.specs.Listing.{line, refused_word, refused_listing}
+use Rattle.listing.specs.Listing.{line, refused_word}
 use Rattle.listing.proofs.OverwrittenLaws.{put_behind}
 use Rattle.listing.proofs.PutsLaws.{no_room, room, refused_parts, length_refused}
 use Rattle.listing.proofs.refused.list.Goals as goal

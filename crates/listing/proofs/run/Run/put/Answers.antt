@@ -1,9 +1,9 @@
 -- `put` puts the lines one behind the other. Assumes nothing.
-use Rattle.std.proofs.Common.{◌≡◌, ◌+◌, ◌≤◌, length, ap, sym, ◌∙◌, arith}
+use Rattle.std.proofs.Common.{◌≡◌, length, ap, ◌∙◌, arith}
 use Rattle.listing.specs.Code.{overwritten}
-use Rattle.listing.specs.Listing.{line, last_line, run_listing}
+use Rattle.listing.specs.Listing.{line, last_line}
 use Rattle.listing.proofs.ListingLaws.{up_to, up_to_none, up_to_more, up_to_all, length_first, length_more, length_listing, within}
-use Rattle.listing.proofs.OverwrittenLaws.{length_out, room_behind, put_behind, length_behind}
+use Rattle.listing.proofs.OverwrittenLaws.{room_behind, put_behind, length_behind}
 use Rattle.listing.proofs.run.Run.put.Goals as goal
 
 pub put-end-requires : goal.put-end-requires
