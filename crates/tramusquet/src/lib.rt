@@ -7,5 +7,5 @@ ghost use Rattle.tramusquet.specs.Statements.{ListsIn};
 pub fn tramusquet_list(file: &[u8], out: &mut [u8]) -> usize
     ensures { ListsIn file.now out.old result out.new }
 {
-    listing::list(file, out).length
+    listing::list(file, out).unwrap_or(0)
 }

@@ -1,18 +1,13 @@
--- `tramusquet_list` answers the length that `list` does. Assumes nothing.
-use Rattle.std.proofs.Common.{◌≡◌, ◌∙◌, Bool, true, false, cond, List, ℕ}
-use Rattle.sessions.specs.Statements.{accepting}
-use Rattle.listing.specs.declared.Listed.{Listed}
-use Rattle.listing.specs.Statements.{Lists}
-use Rattle.tramusquet.specs.Statements.{ListsIn, too_short}
+-- `tramusquet_list` answers the length that `list` does, and 0 where it is refused. Assumes nothing.
+use Rattle.std.proofs.Common.{◌≡◌, ◌∙◌, refl, Bool, true, false, cond, ℕ, Result, Ok, Err}
+use Rattle.std.specs.Result.{result_unwrap_or}
+use Rattle.protocol.specs.declared.Refused.{Refused}
+use Rattle.protocol.specs.declared.Refused.TheVariants.{NoRoom}
 use Rattle.tramusquet.proofs.tramusquet_list.Goals as goal
 
--- accepted where the slice is not too short
-by_room : {A : Type 0} (short : Bool) (number : ℕ) (x y : A) → number ≡ cond short 20 0 → accepting number x y ≡ cond short y x
-by_room true number x y e = rw e
-by_room false number x y e = rw e
-
-lists_in : (file old : List ℕ) (r : Listed) (out : List ℕ) → Lists file old r out → ListsIn file old r.length out
-lists_in file old r out s = record { length_is = s.length_is ∙ by_room (too_short file old) r.number _ _ s.number_is; bytes_are = s.bytes_are ∙ by_room (too_short file old) r.number _ _ s.number_is }
+or_0 : (short : Bool) (r : Result ℕ Refused) (n : ℕ) → r ≡ cond short (Err NoRoom) (Ok n) → result_unwrap_or r 0 ≡ cond short 0 n
+or_0 true r n e = rw e refl
+or_0 false r n e = rw e refl
 
 pub returns : goal.returns
-returns c = lists_in _ _ _ _ c.list.ensures
+returns c = record { length_is = c.unwrap_or.ensures ∙ or_0 _ _ _ c.list.ensures.result_is; bytes_are = c.list.ensures.bytes_are }
