@@ -61,7 +61,8 @@ impl Run<'_> {
         for i in 0..self.head.count {
             sum += line::width(&self.record(i));
         }
-        sum + line::width(&self.last())
+        let last = self.last();
+        sum + line::width(&last)
     }
 
     // The listing: answers how long it is.

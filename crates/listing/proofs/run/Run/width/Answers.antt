@@ -19,4 +19,4 @@ returns c =
     let l = c.loop-i in
     let run = c.args.self.now in
     let all : l.i ≡ run.head.count = omega arith in
-    omega (arith, rw all at l.invariant.1, length_listing _ _ _ _ _ run.told, c.width.ensures.0, ap (λ ns. length (line ns)) c.last.ensures)
+    omega (arith, rw all at l.invariant.1, length_listing _ _ _ _ _ run.told, c.width.ensures.0, ap (λ ns. length (line ns)) c.last-last.ensures)
