@@ -47,28 +47,6 @@ length_small n h = ap length (small n h)
 pub length_more : (n : ℕ) → 10 ≤ n → length (digits n) ≡ length (digits (n / 10)) + 1
 length_more n h = ap length (more n h) ∙ simp length-append
 
--- the digits before the last one
-unfoldable pub front : ℕ → List ℕ
-front n = cond (ltb n 10) [] (digits (n / 10))
-
-pub front_small : (n : ℕ) → n < 10 → front n ≡ []
-unfolding front
-front_small n h = rw (lt-ltb _ _ h)
-
-pub front_more : (n : ℕ) → 10 ≤ n → front n ≡ digits (n / 10)
-unfolding front
-front_more n h = rw (le-ltb _ _ h)
-
-pub digits_split : (n : ℕ) → digits n ≡ front n ++ ((48 + n % 10) ∷ [])
-digits_split n = go (dec_lt n 10)
-  where
-    go : Dec (n < 10) → digits n ≡ front n ++ ((48 + n % 10) ∷ [])
-    go (yes a) = let e : n % 10 ≡ n = omega arith in rw (small n a, front_small n a, e)
-    go (no a) = rw (more n (omega arith), front_more n (omega arith))
-
-pub length_split : (n : ℕ) → length (digits n) ≡ length (front n) + 1
-length_split n = ap length (digits_split n) ∙ simp length-append
-
 -- how many digits there are: at most, and in all
 pub fewer : (k n : ℕ) → n < 10 * 10 ^ k → length (digits n) ≤ suc k
 fewer zero n h = rw (small n h) (omega arith)

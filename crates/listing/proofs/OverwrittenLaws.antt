@@ -16,7 +16,12 @@ pub length_overwritten : (bytes old : List ℕ) → length bytes ≤ length old 
 unfolding overwritten
 length_overwritten bytes old h = simp (length-append, length-drop) (omega arith)
 
--- one byte behind a run
+-- one byte at the start, and one behind a run
+pub overwritten_first : (v : ℕ) (old : List ℕ) → 0 < length old → set old 0 v ≡ overwritten (v ∷ []) old
+unfolding overwritten
+overwritten_first v [] h = absurd (omega arith)
+overwritten_first v (x ∷ xs) h = refl
+
 pub overwritten_one : (bytes : List ℕ) (v : ℕ) (old : List ℕ) → length bytes < length old → set (overwritten bytes old) (length bytes) v ≡ overwritten (bytes ++ (v ∷ [])) old
 unfolding overwritten
 overwritten_one bytes v old h =
