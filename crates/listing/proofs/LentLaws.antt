@@ -68,27 +68,33 @@ module _ (file : List ℕ) (t : Table) (numbers values : ℕ) (fits : Sized file
 
 -- ---- what is lent
 
-module _ (file : List ℕ) (head : Head) (s : HeadOf file head) (m k w : List ℕ) (a : length m ≡ min head.cells 512) (b : length k ≡ min head.cells 512 * min head.boards 16) (c : length w ≡ min head.cells 512 * 3) where
-  lengths : min head.boards 16 ≡ boards_in file → min head.cells 512 ≡ cells_in file → (part : Slice) → length (table_of m k w part) ≡ cells_in file * width (boards_in file) part
-  lengths e f main = unfold width in omega arith
-  lengths e f copies = unfold width in rw (e, f) at b
-  lengths e f masks = unfold width in rw f at c
+module _ (file : List ℕ) (head : Head) (s : HeadOf file head) (boards cells : ℕ) (p : boards ≡ min head.boards 16) (q : cells ≡ min head.cells 512) where
+  pub few_cells : cells ≤ 512
+  few_cells = omega arith
 
-  pub sized : Sized file (table_of m k w)
-  sized long = go (in_range (boards_in file) (cells_in file)) refl
-    where
-      go : (x : Bool) → in_range (boards_in file) (cells_in file) ≡ x → sizes_good (boards_in file) (cells_in file) (table_of m k w) ≡ in_range (boards_in file) (cells_in file)
-      go false e = unfold sizes_good in rw e
-      go true e =
-          let range = (range_exactly (boards_in file) (cells_in file)).0 e in
-          let said = head_says file head s long in
-          (sizes_exactly (boards_in file) (cells_in file) (table_of m k w)).1 (range, lengths (omega (arith, said.says_boards, range.0.1)) (omega (arith, said.says_cells, range.1.1))) ∙ sym e
+  pub few_copies : cells * boards ≤ 8192
+  few_copies =
+      let few_boards : boards ≤ 16 = omega arith in
+      omega (arith, mul-le-mul_left cells few_boards, few_cells)
 
-pub few_copies : (cells boards : ℕ) → min cells 512 * min boards 16 ≤ 8192
-few_copies cells boards =
-    let few_boards : min boards 16 ≤ 16 = omega arith in
-    let few_cells : min cells 512 ≤ 512 = omega arith in
-    omega (arith, mul-le-mul_left (min cells 512) few_boards, few_cells)
+  pub few_masks : cells * 3 ≤ 1536
+  few_masks = omega (arith, few_cells)
+
+  module _ (m k w : List ℕ) (a : length m ≡ cells) (b : length k ≡ cells * boards) (c : length w ≡ cells * 3) where
+    lengths : boards ≡ boards_in file → cells ≡ cells_in file → (part : Slice) → length (table_of m k w part) ≡ cells_in file * width (boards_in file) part
+    lengths e f main = unfold width in omega arith
+    lengths e f copies = unfold width in rw (e, f) at b
+    lengths e f masks = unfold width in rw f at c
+
+    pub sized : Sized file (table_of m k w)
+    sized long = go (in_range (boards_in file) (cells_in file)) refl
+      where
+        go : (x : Bool) → in_range (boards_in file) (cells_in file) ≡ x → sizes_good (boards_in file) (cells_in file) (table_of m k w) ≡ in_range (boards_in file) (cells_in file)
+        go false e = unfold sizes_good in rw e
+        go true e =
+            let range = (range_exactly (boards_in file) (cells_in file)).0 e in
+            let said = head_says file head s long in
+            (sizes_exactly (boards_in file) (cells_in file) (table_of m k w)).1 (range, lengths (omega (arith, said.says_boards, range.0.1)) (omega (arith, said.says_cells, range.1.1))) ∙ sym e
 
 -- ---- what a run that is not refused has told
 

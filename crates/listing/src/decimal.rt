@@ -4,11 +4,10 @@ ghost use Rattle.listing.specs.Decimal.{digits};
 ghost use Rattle.listing.specs.Code.{overwritten};
 
 // How many digits a number has.
-
 pub fn width(n: usize) -> usize
     ensures { (result ≡ length (digits n)) × (result ≤ 20) }
 {
-    if n == 0 { 1 } else { n.ilog10() as usize + 1 }
+    n.checked_ilog10().unwrap_or(0) as usize + 1
 }
 
 // The digits of a number's tenth, then its last digit: answers how many there are. One digit has a way out of its own: where both ways shared the

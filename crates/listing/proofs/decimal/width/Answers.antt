@@ -1,10 +1,17 @@
 -- `width` by the power of ten that the number reaches. Assumes nothing.
-use Rattle.std.proofs.Common.{arith}
-use Rattle.listing.proofs.DigitLaws.{length_small, counted}
+use Rattle.std.proofs.Common.{◌≡◌, ℕ, ◌+◌, ◌*◌, ◌^◌, ◌<◌, ◌≤◌, Option, None, Some, IfSome, length, sym, arith}
+use Rattle.std.specs.Option.{IfNone, unwrap_or}
+use Rattle.listing.specs.Decimal.{digits}
+use Rattle.listing.proofs.DigitLaws.{length_small, counted, few_digits}
 use Rattle.listing.proofs.decimal.width.Goals as goal
 
-pub returns-then-n-eq0 : goal.returns-then-n-eq0
-returns-then-n-eq0 c = omega (arith, length_small c.args.n (omega arith))
+by_power : (n : ℕ) (r : Option ℕ) → IfNone r (n ≡ 0) → IfSome r (λ k. 10 ^ k ≤ n) → IfSome r (λ k. n < 10 * 10 ^ k) → unwrap_or r 0 + 1 ≡ length (digits n)
+by_power n None none some next = sym (length_small n (omega arith))
+by_power n (Some k) none some next = sym (counted k n some next)
 
-pub returns-else-n-eq0 : goal.returns-else-n-eq0
-returns-else-n-eq0 c = omega (arith, counted c.ilog10.result c.args.n (omega arith) (omega arith))
+pub returns : goal.returns
+returns c =
+    let n = c.args.n in
+    let log = c.checked_ilog10.ensures in
+    let e = by_power n _ log.none log.power_le log.next_power_gt in
+    (omega (arith, c.unwrap_or.ensures, e), omega (arith, c.unwrap_or.ensures, e, few_digits n (omega arith)))
