@@ -1,6 +1,7 @@
 -- The laws and the promises. Assumes nothing.
 pub mod Booleans
 pub mod MaskLaws
+pub mod WordLaws
 pub mod PlaceLaws
 pub mod BoundedMasks
 pub mod HandoutLaws

@@ -1,5 +1,4 @@
 -- The laws and the promises. Assumes nothing.
-pub mod WordLaws
 pub mod MaskTests
 pub mod ReadyLaws
 pub mod SoundLaws

@@ -13,7 +13,7 @@ use Rattle.protocol.specs.Soundness.{every_board}
 use Rattle.protocol.proofs.Booleans.{clash, not_so, and_right, either, boards_imply}
 use Rattle.protocol.proofs.MaskLaws.{same_mask, has_none, has_lowest, high_of_lt, another_false, ones_same}
 use Rattle.protocol.proofs.BoundedMasks.{below}
-use Rattle.table.specs.Code.{within}
+use Rattle.protocol.specs.Masks.{within}
 
 -- ---- the boards of two masks together
 

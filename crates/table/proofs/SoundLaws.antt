@@ -16,7 +16,8 @@ use Rattle.protocol.specs.Soundness.{from, up_to, asked_by, every_board, meets, 
 use Rattle.protocol.proofs.Booleans.{clash, not_so, and_left, and_right, and_both, board_at, board_of}
 use Rattle.protocol.proofs.NumberLaws.{by_rule}
 use Rattle.protocol.proofs.SoundExactly.{of_sound, sound_of}
-use Rattle.table.specs.Code.{Ready, MasksAt, current_at, within, masks_sound, copy_sound, copies_sound}
+use Rattle.table.specs.Code.{Ready, MasksAt, current_at, masks_sound, copy_sound, copies_sound}
+use Rattle.protocol.specs.Masks.{within}
 use Rattle.table.proofs.MaskTests.{within_boards, boards_within, alone_boards, boards_alone}
 use Rattle.table.proofs.ReadyLaws.{copy_is, as_live, as_dirty, as_lock, current_is}
 

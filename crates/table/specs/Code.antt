@@ -1,6 +1,5 @@
 -- What the private functions of this crate ask and answer, on plain numbers. Assumes nothing.
 use Rattle.std.specs.Prelude.{◌≡◌, Bool, false, cond, not, ◌&&◌, ◌||◌, List, [], ◌∷◌, ℕ, ◌+◌, ◌*◌, ◌^◌, ◌<◌, ◌≤◌, eqb, ltb, leb, length, get_or, Result, Ok, Err}
-use Rattle.std.specs.Int.Bits.{bit_and}
 use Rattle.std.specs.Int.Count.{ones}
 use Rattle.protocol.specs.declared.Rule.{Rule}
 use Rattle.protocol.specs.declared.Proc.{Proc}
@@ -9,7 +8,7 @@ use Rattle.protocol.specs.declared.Refused.{Refused}
 use Rattle.protocol.specs.Names.{proc_of}
 use Rattle.protocol.specs.Replies.{reply_number}
 use Rattle.protocol.specs.Step.{malformed, missing}
-use Rattle.protocol.specs.Masks.{has_board, lowest_board}
+use Rattle.protocol.specs.Masks.{has_board, within, lowest_board}
 use Rattle.protocol.specs.Slices.{Slice, main, copies, masks, Table, table_of, width}
 use Rattle.protocol.specs.Effects.{effect, value_of, stores_in}
 use Rattle.protocol.specs.Cell.{Cell, cell_of, copy_at, live_mask, dirty_mask, lock_mask, current_value}
@@ -70,10 +69,6 @@ pub record MasksAt (in_masks : List ℕ) (cell live dirty lock : ℕ) : Type 0 w
 -- the dirty copy if there is one, else main
 unfoldable pub current_at : (boards cell dirty : ℕ) → (in_main in_copies : List ℕ) → ℕ
 current_at boards cell dirty in_main in_copies = cond (eqb dirty 0) (get_or in_main cell 0) (get_or in_copies (cell * boards + lowest_board dirty) 0)
-
--- every board of a mask is in the other
-unfoldable pub within : (mask other : ℕ) → Bool
-within mask other = eqb (bit_and mask other) mask
 
 -- soundness, as far as the three masks show it: Inv2, Inv3, Inv5 with Inv6, and Inv7 stand last
 unfoldable pub masks_sound : (rule boards live dirty lock : ℕ) → Bool

@@ -7,10 +7,9 @@ ghost use Rattle.protocol.specs.Slices.{table_of};
 ghost use Rattle.protocol.specs.Step.{answer};
 ghost use Rattle.table.specs.Code.{EachBoard, StoresValues, StoresMasks};
 
-use crate::mask::{Board, Mask};
-use crate::rules;
 use crate::view::View;
-use protocol::{Action, MASKS_PER_CELL, Proc, Refused, Rule};
+use crate::{cell, rules};
+use protocol::{Action, Board, MASKS_PER_CELL, Mask, Proc, Refused, Rule};
 
 // The procedure of an action that nothing stands against. Of the cells only the named one is looked at.
 pub fn judge(view: &View, rule: u8, a: Action) -> Result<Proc, Refused>
@@ -51,26 +50,26 @@ pub fn store_values(
     ensures { StoresValues boards main.old copies.old cell procedure result main.new copies.new }
 {
     match procedure {
-        Proc::Read(p) => copies[cell * boards + p as usize],
+        Proc::Read(p) => copies[cell::place(boards, cell, p)],
         Proc::Write(p, value) => {
-            copies[cell * boards + p as usize] = value;
+            copies[cell::place(boards, cell, p)] = value;
             0
         }
         Proc::Barrier(_) => 0,
         Proc::MtoC(p) => {
-            copies[cell * boards + p as usize] = main[cell];
+            copies[cell::place(boards, cell, p)] = main[cell];
             0
         }
         Proc::CtoM(p) => {
-            main[cell] = copies[cell * boards + p as usize];
+            main[cell] = copies[cell::place(boards, cell, p)];
             0
         }
         Proc::CtoC(p, q) => {
-            copies[cell * boards + q as usize] = copies[cell * boards + p as usize];
+            copies[cell::place(boards, cell, q)] = copies[cell::place(boards, cell, p)];
             0
         }
         Proc::Drop(p) => {
-            copies[cell * boards + p as usize] = 0;
+            copies[cell::place(boards, cell, p)] = 0;
             0
         }
         Proc::Acquire(_) => 0,
@@ -79,7 +78,7 @@ pub fn store_values(
 }
 
 // The board is put into the mask at a place.
-fn put(masks: &mut [u16], at: usize, board: u8)
+fn put(masks: &mut [u16], at: usize, board: usize)
     requires { (at < length masks.old) × (board < 16) }
     ensures { masks.new ≡ slice_set masks.old at (with_board (slice_index masks.old at) board) }
 {
@@ -88,7 +87,7 @@ fn put(masks: &mut [u16], at: usize, board: u8)
 }
 
 // The board is taken out of the mask at a place.
-fn take(masks: &mut [u16], at: usize, board: u8)
+fn take(masks: &mut [u16], at: usize, board: usize)
     requires { (at < length masks.old) × (board < 16) }
     ensures { masks.new ≡ slice_set masks.old at (without_board (slice_index masks.old at) board) }
 {

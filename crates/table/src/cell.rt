@@ -1,16 +1,23 @@
 // One cell: its masks, and whether these and a copy are sound.
-ghost use Rattle.std.specs.Prelude.{◌≡◌, ◌≤◌};
+ghost use Rattle.std.specs.Prelude.{◌≡◌, ◌+◌, ◌*◌, ◌<◌, ◌≤◌, ◌^◌, ltb};
 ghost use Rattle.protocol.specs.Names.{rule_number};
 ghost use Rattle.table.specs.Code.{masks_sound, copy_sound};
 
-use crate::mask::{Board, Mask};
-use protocol::Rule;
+use protocol::{Board, Mask, Rule};
 
 #[derive(Clone, Copy, Debug, PartialEq, Eq)]
 pub struct Masks {
     pub live: Mask,
     pub dirty: Mask,
     pub lock: Mask,
+}
+
+// No board at P or above.
+fn is_below(mask: Mask, boards: usize) -> bool
+    requires { boards ≤ 16 }
+    ensures { result ≡ ltb mask.bits (2 ^ boards) }
+{
+    (mask.bits as u32) < (1 << boards)
 }
 
 impl Masks {
@@ -21,7 +28,7 @@ impl Masks {
         requires { boards ≤ 16 }
         ensures { result ≡ masks_sound (rule_number rule) boards self.live.bits self.dirty.bits self.lock.bits }
     {
-        (self.live.is_below(boards) & self.dirty.is_below(boards) & self.lock.is_below(boards))
+        (is_below(self.live, boards) & is_below(self.dirty, boards) & is_below(self.lock, boards))
             & (Rule::CurrentCaches.is_before(rule) | self.lock.is_empty())
             & self.dirty.is_within(self.live)
             & (rule.is_before(Rule::GlobalImpl) | (self.dirty.count() <= 1))
@@ -39,4 +46,12 @@ pub fn copy_sound(rule: Rule, live: Mask, copy: u32, current: u32, board: Board)
 {
     let is_live = live.has(board);
     (is_live | (copy == 0)) & (rule.is_before(Rule::CurrentCaches) | (!is_live | (copy == current)))
+}
+
+// Where a board's copy of a cell stands.
+pub fn place(boards: usize, cell: usize, board: usize) -> usize
+    requires { cell * boards + board < 2 ^ 64 }
+    ensures { result ≡ cell * boards + board }
+{
+    cell * boards + board
 }

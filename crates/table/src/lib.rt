@@ -8,13 +8,11 @@ ghost use Rattle.table.specs.Statements.{Freshens, Checks, Steps};
 
 mod action;
 mod cell;
-mod mask;
 mod rules;
 mod view;
 
-use crate::mask::Board;
 use crate::view::View;
-use protocol::{Action, MASKS_PER_CELL, Refused, Rule};
+use protocol::{Action, Board, MASKS_PER_CELL, Refused, Rule};
 
 // P is 1 to 16, and N is 1 to 512.
 #[tactic(auto, unfolding(protocol::specs::Slices::in_range))]
@@ -82,9 +80,7 @@ pub fn check(
         let now = view.current(cell, m.dirty);
         'boards: for board in 0..view.boards {
             let copy = view.copy_at(cell, board);
-            let board = Board {
-                number: board as u8,
-            };
+            let board = Board { number: board };
             if !cell::copy_sound(ruled, m.live, copy, now, board) {
                 found = Some(cell);
                 break 'cells;

@@ -7,8 +7,7 @@ ghost use Rattle.protocol.specs.Step.{malformed, missing, off_board};
 ghost use Rattle.table.specs.Code.{Names, EachBoard, GuardGives};
 
 use crate::cell::Masks;
-use crate::mask::Board;
-use protocol::{Action, Proc, Refused, Rule};
+use protocol::{Action, Board, Proc, Refused, Rule};
 
 // A board that the action names is not below P.
 #[tactic(auto, unfolding(protocol::specs::Step::off_board))]
@@ -36,20 +35,21 @@ fn named(unused: bool, lacking: bool, procedure: Proc) -> Result<Proc, Refused>
 pub fn procedure(rule: Rule, a: Action) -> Result<Proc, Refused>
     ensures { Names (rule_number rule) a result }
 {
+    let board = a.board as usize;
     let to = a.to != 0;
     let value = a.value != 0;
     let not_0 = Rule::IncoherentMemory.is_before(rule);
     let no_locks = rule.is_before(Rule::ExclusiveLocks0);
     match a.code {
-        0 => named(to | value, false, Proc::Read(a.board)),
-        1 => named(to, false, Proc::Write(a.board, a.value)),
-        2 => named(to | value, not_0, Proc::Barrier(a.board)),
-        3 => named(to | value, false, Proc::MtoC(a.board)),
-        4 => named(to | value, false, Proc::CtoM(a.board)),
-        5 => named(value, false, Proc::CtoC(a.board, a.to)),
-        6 => named(to | value, false, Proc::Drop(a.board)),
-        7 => named(to | value, no_locks, Proc::Acquire(a.board)),
-        8 => named(to | value, no_locks, Proc::Release(a.board)),
+        0 => named(to | value, false, Proc::Read(board)),
+        1 => named(to, false, Proc::Write(board, a.value)),
+        2 => named(to | value, not_0, Proc::Barrier(board)),
+        3 => named(to | value, false, Proc::MtoC(board)),
+        4 => named(to | value, false, Proc::CtoM(board)),
+        5 => named(value, false, Proc::CtoC(board, a.to as usize)),
+        6 => named(to | value, false, Proc::Drop(board)),
+        7 => named(to | value, no_locks, Proc::Acquire(board)),
+        8 => named(to | value, no_locks, Proc::Release(board)),
         // no action has such a code
         9..=255 => Err(Refused::Malformed),
     }

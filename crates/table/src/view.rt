@@ -7,8 +7,7 @@ ghost use Rattle.table.specs.Code.{Sized, MasksAt, current_at, copies_sound};
 
 use crate::cell;
 use crate::cell::Masks;
-use crate::mask::{Board, Mask};
-use protocol::{MASKS_PER_CELL, Refused, Rule};
+use protocol::{Board, MASKS_PER_CELL, Mask, Refused, Rule};
 
 #[derive(Clone, Copy)]
 pub struct View<'a> {
@@ -66,7 +65,7 @@ impl<'a> View<'a> {
         requires { (cell < self.now.cells) × (board < self.now.boards) }
         ensures { result ≡ slice_index self.now.copies.now (cell * self.now.boards + board) }
     {
-        self.copies[cell * self.boards + board]
+        self.copies[cell::place(self.boards, cell, board)]
     }
 
     // The dirty copy if there is one, else main.
@@ -74,10 +73,10 @@ impl<'a> View<'a> {
         requires { (cell < self.now.cells) × (dirty.bits < 2 ^ self.now.boards) }
         ensures { result ≡ current_at self.now.boards cell dirty.bits self.now.main.now self.now.copies.now }
     {
-        if dirty.is_empty() {
-            return self.main[cell];
+        match dirty.lowest() {
+            None => self.main[cell],
+            Some(board) => self.copy_at(cell, board),
         }
-        self.copy_at(cell, dirty.lowest())
     }
 
     // What all the copies of a cell show. None is left out where one fails: with one way out the loop runs fastest.
@@ -88,9 +87,7 @@ impl<'a> View<'a> {
         let mut sound = true;
         for board in 0..self.boards {
             let copy = self.copy_at(cell, board);
-            let board = Board {
-                number: board as u8,
-            };
+            let board = Board { number: board };
             sound = cell::copy_sound(rule, live, copy, current, board) & sound;
         }
         sound

@@ -1,17 +1,17 @@
 -- `current` is the dirty copy if there is one, else main. Assumes nothing.
-use Rattle.std.proofs.Common.{sym, ◌∙◌}
-use borrow.Author.Tests.{eqb-false}
+use Rattle.std.proofs.Common.{sym}
+use borrow.Author.Tests.{ne_eqb}
 use Rattle.table.specs.Code.{current_at}
 use Rattle.table.proofs.ReadyLaws.{lowest_in}
 use Rattle.table.proofs.view.View.current.Goals as goal
 
-pub returns-then-is_empty : goal.returns-then-is_empty
-unfolding current_at
-returns-then-is_empty c = rw (sym c.is_empty.ensures ∙ c.if-is_empty.true)
-
 pub copy_at-requires : goal.copy_at-requires
-copy_at-requires c = (c.requires.0, rw c.lowest.ensures (lowest_in _ _ c.requires.1 (eqb-false _ _ (sym c.is_empty.ensures ∙ c.if-is_empty.false))))
+copy_at-requires c = (c.requires.0, rw c.in-Some.ensures.1 (lowest_in _ _ c.requires.1 c.in-Some.ensures.0))
 
-pub returns : goal.returns
+pub returns-in-None : goal.returns-in-None
 unfolding current_at
-returns c = rw (sym c.is_empty.ensures ∙ c.if-is_empty.false, sym c.lowest.ensures) c.copy_at.ensures
+returns-in-None c = rw c.in-None.ensures
+
+pub returns-in-Some : goal.returns-in-Some
+unfolding current_at
+returns-in-Some c = rw (ne_eqb _ _ c.in-Some.ensures.0, sym c.in-Some.ensures.1) c.copy_at.ensures

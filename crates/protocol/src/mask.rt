@@ -1,13 +1,12 @@
 // A mask of boards: board p is the bit worth 2^p.
-ghost use Rattle.std.specs.Prelude.{◌≡◌, ◌≢◌, ◌<◌, ◌≤◌, ◌^◌, ltb, eqb};
+ghost use Rattle.std.specs.Prelude.{◌≡◌, ◌≢◌, ◌<◌, eqb, MatchOption};
 ghost use Rattle.std.specs.Int.Count.{ones};
-ghost use Rattle.protocol.specs.Masks.{has_board, with_board, without_board, has_another, lowest_board};
-ghost use Rattle.table.specs.Code.{within};
+ghost use Rattle.protocol.specs.Masks.{has_board, with_board, without_board, has_another, within, lowest_board};
 
 // A board of some table, which has at most 16.
 #[derive(Clone, Copy)]
 pub struct Board {
-    pub number: u8,
+    pub number: usize,
     ghost low: { number < 16 },
 }
 
@@ -23,7 +22,7 @@ impl Mask {
         self.bits == 0
     }
 
-    #[tactic(auto, unfolding(protocol::specs::Masks::has_board))]
+    #[tactic(auto, unfolding(crate::specs::Masks::has_board))]
     pub fn has(self, board: Board) -> bool
         ensures { result ≡ has_board self.bits board.number }
     {
@@ -47,7 +46,7 @@ impl Mask {
     }
 
     // Another board than this one is in the mask.
-    #[tactic(auto, unfolding(protocol::specs::Masks::has_another))]
+    #[tactic(auto, unfolding(crate::specs::Masks::has_another))]
     pub fn has_another(self, board: Board) -> bool
         ensures { result ≡ has_another self.bits board.number }
     {
@@ -55,19 +54,11 @@ impl Mask {
     }
 
     // Every board of the mask is in the other.
-    #[tactic(auto, unfolding(crate::specs::Code::within))]
+    #[tactic(auto, unfolding(crate::specs::Masks::within))]
     pub fn is_within(self, other: Mask) -> bool
         ensures { result ≡ within self.bits other.bits }
     {
         self.bits & other.bits == self.bits
-    }
-
-    // No board at P or above.
-    pub fn is_below(self, boards: usize) -> bool
-        requires { boards ≤ 16 }
-        ensures { result ≡ ltb self.bits (2 ^ boards) }
-    {
-        (self.bits as u32) < (1 << boards)
     }
 
     // How many boards are in the mask.
@@ -77,11 +68,13 @@ impl Mask {
         self.bits.count_ones()
     }
 
-    // The lowest board of a mask that has one.
-    pub fn lowest(self) -> usize
-        requires { self.bits ≢ 0 }
-        ensures { result ≡ lowest_board self.bits }
+    // The lowest board, if there is one.
+    pub fn lowest(self) -> Option<usize>
+        ensures { MatchOption result (self.bits ≡ 0) (λ p. (self.bits ≢ 0) × (p ≡ lowest_board self.bits)) }
     {
-        self.bits.trailing_zeros() as usize
+        if self.is_empty() {
+            return None;
+        }
+        Some(self.bits.trailing_zeros() as usize)
     }
 }

@@ -1,6 +1,6 @@
 -- `with` sets one bit. Assumes nothing.
-use Rattle.table.proofs.WordLaws.{with_code}
-use Rattle.table.proofs.mask.Mask.with.Goals as goal
+use Rattle.protocol.proofs.WordLaws.{with_code}
+use Rattle.protocol.proofs.mask.Mask.with.Goals as goal
 
 pub returns : goal.returns
 returns c = with_code _ _ c.args.board.low
