@@ -1,74 +1,85 @@
-// Reading a line from a place on. What is read comes with the place behind it, or with NOWHERE where it does not stand there.
-ghost use Rattle.std.specs.Prelude.{◌≤◌, length};
+// What a line is made of: words with one blank between two. Each is taken in turn, and `None` says that it is not what has to stand there.
+use std::num::ParseIntError;
+use std::str::{FromStr, Split};
 
-pub const NOWHERE: usize = usize::MAX;
+#[derive(Drop)]
+pub struct Words<'a>(Split<'a, char>);
 
-// A number, and the place behind it.
-#[derive(Clone, Copy)]
-pub struct Read(pub usize, pub usize);
-
-// Where a byte stands next, from a place on; the end where it does not.
-pub fn find(line: &[u8], from: usize, byte: u8) -> usize
-    requires { from ≤ length line.now }
-    ensures { (from ≤ result) × (result ≤ length line.now) }
-{
-    let mut at = from;
-    while at < line.len() && line[at] != byte {
-        at += 1;
+// A number of decimal digits alone, where `parse` takes a sign too.
+fn parse_digits<T: FromStr<Err = ParseIntError>>(digits: &str) -> Option<T> {
+    if digits.starts_with('+') {
+        return None;
     }
-    at
+    digits.parse().ok()
 }
 
-// The place behind a byte.
-pub fn behind(line: &[u8], at: usize, byte: u8) -> usize {
-    if at < line.len() && line[at] == byte {
-        return at + 1;
+// Stores a number, or several with dots between them, behind those that are there, and gives how many there are then.
+fn store_group<T: Copy + FromStr<Err = ParseIntError>>(
+    group: &str,
+    room: &mut [T],
+    there: usize,
+) -> Option<usize> {
+    let mut end = there;
+    for digits in group.split('.') {
+        *room.get_mut(end)? = parse_digits(digits)?;
+        end += 1;
     }
-    NOWHERE
+    Some(end)
 }
 
-// The place behind a blank and a bar, where the call has one.
-pub fn bar(line: &[u8], at: usize, has: bool) -> usize {
-    if !has {
-        return at;
+// Stores a group, as often as a count and a star before it say: behind a count of 0 stands none.
+fn store<T: Copy + FromStr<Err = ParseIntError>>(
+    word: &str,
+    room: &mut [T],
+    there: usize,
+) -> Option<usize> {
+    let Some((count, group)) = word.split_once('*') else {
+        return store_group(word, room, there);
+    };
+    let count: u32 = parse_digits(count)?;
+    if count > 100000 || count == 0 && !group.is_empty() {
+        return None;
     }
-    behind(line, behind(line, at, b' '), b'|')
+    let mut end = there;
+    for _ in 0..count {
+        end = store_group(group, room, end)?;
+    }
+    Some(end)
 }
 
-// Less than 10 for the ten digits alone.
-fn digit(byte: u8) -> usize {
-    byte.wrapping_sub(b'0') as usize
-}
+impl<'a> Words<'a> {
+    pub fn new(line: &'a str) -> Words<'a> {
+        Words(line.split(' '))
+    }
 
-// A number of decimal digits that is at most as large as it may be.
-pub fn digits(line: &[u8], from: usize, most: usize) -> Read
-    ensures { result.0 ≤ most }
-{
-    let mut at = from;
-    let mut value = 0;
-    while at < line.len() && digit(line[at]) < 10 {
-        let d = digit(line[at]);
-        if most < d {
-            return Read(0, NOWHERE);
+    pub fn next(&mut self) -> Option<&'a str> {
+        self.0.next()
+    }
+
+    pub fn number<T: FromStr<Err = ParseIntError>>(&mut self) -> Option<T> {
+        parse_digits(self.next()?)
+    }
+
+    pub fn bar(&mut self) -> Option<()> {
+        (self.next()? == "|").then_some(())
+    }
+
+    pub fn end(&mut self) -> Option<()> {
+        self.next().is_none().then_some(())
+    }
+
+    // The contents of a slice, up to a bar: gives the part of the room that they fill.
+    pub fn slice<'m, T: Copy + FromStr<Err = ParseIntError>>(
+        &mut self,
+        room: &'m mut [T],
+    ) -> Option<&'m mut [T]> {
+        let mut end = 0;
+        for word in &mut self.0 {
+            if word == "|" {
+                return room.get_mut(..end);
+            }
+            end = store(word, room, end)?;
         }
-        if (most - d) / 10 < value {
-            return Read(0, NOWHERE);
-        }
-        value = value * 10 + d;
-        at += 1;
+        None
     }
-    if at == from {
-        return Read(0, NOWHERE);
-    }
-    Read(value, at)
-}
-
-// A blank and a number, where the call has one.
-pub fn number(line: &[u8], at: usize, has: bool, most: usize) -> Read
-    ensures { result.0 ≤ most }
-{
-    if !has {
-        return Read(0, at);
-    }
-    digits(line, behind(line, at, b' '), most)
 }
