@@ -106,7 +106,7 @@ impl<'a> Call<'a> {
             out,
             values,
         } = memory;
-        let call = match words.next()? {
+        let call = match words.word()? {
             "in_range" => Call::InRange {
                 sizes: Sizes::read(&mut words)?,
             },

@@ -1,25 +1,32 @@
 // The memory that a call's slices are parts of: each has its own, from its front on, as long as the line says.
+// More than any table, file and answers have, so that a slice can be too long.
+pub const BYTES: usize = 100000;
+
+const VALUES: usize = 8300;
+
+const MASKS: usize = 2100;
+
 #[derive(Drop)]
 pub struct Memory {
-    pub starting: [u32; 8300],
-    pub file: [u8; 100000],
-    pub main: [u32; 8300],
-    pub copies: [u32; 8300],
-    pub masks: [u16; 2100],
-    pub out: [u8; 100000],
-    pub values: [u32; 8300],
+    pub starting: [u32; VALUES],
+    pub file: [u8; BYTES],
+    pub main: [u32; VALUES],
+    pub copies: [u32; VALUES],
+    pub masks: [u16; MASKS],
+    pub out: [u8; BYTES],
+    pub values: [u32; VALUES],
 }
 
 impl Memory {
     pub fn new() -> Memory {
         Memory {
-            starting: [0; 8300],
-            file: [0; 100000],
-            main: [0; 8300],
-            copies: [0; 8300],
-            masks: [0; 2100],
-            out: [0; 100000],
-            values: [0; 8300],
+            starting: [0; VALUES],
+            file: [0; BYTES],
+            main: [0; VALUES],
+            copies: [0; VALUES],
+            masks: [0; MASKS],
+            out: [0; BYTES],
+            values: [0; VALUES],
         }
     }
 }

@@ -16,9 +16,9 @@ where
     u32: From<T>,
 {
     fn fmt<W: fmt::Write>(&self, f: &mut Formatter<W>) -> fmt::Result {
-        let Contents(numbers) = self;
+        let numbers = self.0;
         if numbers.len() <= 64 {
-            for number in numbers.iter() {
+            for number in numbers {
                 write!(f, " {}", u32::from(*number))?;
             }
         } else {

@@ -1,5 +1,7 @@
 // What a line is made of: words with one blank between two. Each is taken in turn, and `None` says that it is not what has to stand there.
+use crate::memory::BYTES;
 use std::num::ParseIntError;
+use std::slice::IterMut;
 use std::str::{FromStr, Split};
 
 #[derive(Drop)]
@@ -13,38 +15,33 @@ fn parse_digits<T: FromStr<Err = ParseIntError>>(digits: &str) -> Option<T> {
     digits.parse().ok()
 }
 
-// Stores a number, or several with dots between them, behind those that are there, and gives how many there are then.
+// Stores a number, or several with dots between them, in the next places.
 fn store_group<T: Copy + FromStr<Err = ParseIntError>>(
     group: &str,
-    room: &mut [T],
-    there: usize,
-) -> Option<usize> {
-    let mut end = there;
+    places: &mut IterMut<'_, T>,
+) -> Option<()> {
     for digits in group.split('.') {
-        *room.get_mut(end)? = parse_digits(digits)?;
-        end += 1;
+        *places.next()? = parse_digits(digits)?;
     }
-    Some(end)
+    Some(())
 }
 
 // Stores a group, as often as a count and a star before it say: behind a count of 0 stands none.
 fn store<T: Copy + FromStr<Err = ParseIntError>>(
     word: &str,
-    room: &mut [T],
-    there: usize,
-) -> Option<usize> {
+    places: &mut IterMut<'_, T>,
+) -> Option<()> {
     let Some((count, group)) = word.split_once('*') else {
-        return store_group(word, room, there);
+        return store_group(word, places);
     };
-    let count: u32 = parse_digits(count)?;
-    if count > 100000 || count == 0 && !group.is_empty() {
+    let count = parse_digits(count)?;
+    if count > BYTES || count == 0 && !group.is_empty() {
         return None;
     }
-    let mut end = there;
     for _ in 0..count {
-        end = store_group(group, room, end)?;
+        store_group(group, places)?;
     }
-    Some(end)
+    Some(())
 }
 
 impl<'a> Words<'a> {
@@ -52,20 +49,20 @@ impl<'a> Words<'a> {
         Words(line.split(' '))
     }
 
-    pub fn next(&mut self) -> Option<&'a str> {
+    pub fn word(&mut self) -> Option<&'a str> {
         self.0.next()
     }
 
     pub fn number<T: FromStr<Err = ParseIntError>>(&mut self) -> Option<T> {
-        parse_digits(self.next()?)
+        parse_digits(self.word()?)
     }
 
     pub fn bar(&mut self) -> Option<()> {
-        (self.next()? == "|").then_some(())
+        (self.word()? == "|").then_some(())
     }
 
     pub fn end(&mut self) -> Option<()> {
-        self.next().is_none().then_some(())
+        self.word().is_none().then_some(())
     }
 
     // The contents of a slice, up to a bar: gives the part of the room that they fill.
@@ -73,12 +70,14 @@ impl<'a> Words<'a> {
         &mut self,
         room: &'m mut [T],
     ) -> Option<&'m mut [T]> {
-        let mut end = 0;
+        let most = room.len();
+        let mut places = room.iter_mut();
         for word in &mut self.0 {
             if word == "|" {
-                return room.get_mut(..end);
+                let filled = most.checked_sub(places.len())?;
+                return room.get_mut(..filled);
             }
-            end = store(word, room, end)?;
+            store(word, &mut places)?;
         }
         None
     }
