@@ -12,7 +12,8 @@ pub struct Sizes {
     cells: usize,
 }
 
-// Each slice is a part of memory of its own.
+// Each slice is a part of memory of its own. A table's three are no struct: tried, and nothing is proved of a call by value that holds one with
+// `&mut` slices.
 #[derive(Drop)]
 pub enum Call<'a> {
     InRange {
