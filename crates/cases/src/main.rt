@@ -39,8 +39,9 @@ fn make_room() -> [u8; 3000000] {
     [0; 3000000]
 }
 
-fn main(rt: HostRuntime) -> std::io::Result<()> {
+// Where a line cannot be written the answers end, and nothing is said of it.
+fn main(rt: HostRuntime) {
     let mut room = make_room();
     let mut memory = Memory::new();
-    answer_lines(&rt, read_input(&mut room), &mut memory)
+    let _ = answer_lines(&rt, read_input(&mut room), &mut memory);
 }

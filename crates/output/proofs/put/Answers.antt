@@ -1,5 +1,5 @@
 -- `put` puts the whole listing, because 94,232 bytes are always enough. Assumes nothing.
-use Rattle.std.proofs.Common.{◌≡◌, ◌∙◌, ℕ, ◌≤◌, List, Ok, length, take, drop, refl, arith}
+use Rattle.std.proofs.Common.{◌≡◌, ℕ, ◌≤◌, List, Ok, length, take, drop, refl, arith}
 use Rattle.std.proofs.Math.Seq.{take-append_seam}
 use borrow.Author.Tests.{le-ltb}
 use Rattle.listing.specs.Listing.{listing_of}
