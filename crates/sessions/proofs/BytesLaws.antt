@@ -1,10 +1,10 @@
 -- Laws of the numbers that are read from a run of bytes, one more at a time. Assumes nothing.
 use mathlib.Core.Path.{◌≡◌, refl, ap, sym, ◌∙◌}
 use mathlib.Core.List.{List, [], ◌∷◌, ◌++◌}
-use Prim.Native.Nat.{ℕ, zero, suc, ◌+◌, ◌*◌, ◌/◌, ◌<◌, ◌≤◌}
+use Prim.Native.Nat.{ℕ, zero, suc, ◌+◌, ◌*◌, ◌<◌, ◌≤◌}
 use native.Mathlib.Numerals.{add-one}
 use native.Mathlib.Omega.{arith}
-use lib.ListN.{length, get_or, drop, set, length-drop}
+use lib.ListN.{length, get_or, drop, set}
 use lib.Dec.{eqb}
 use Rattle.std.specs.List.{starts_with}
 use lib.Seq.{drop-cons, set_at, append_snoc}
@@ -23,19 +23,6 @@ pub record Says (file : List ℕ) (r : Head) : Type 0 where
   pub says_cells : r.cells ≡ cells_in file
   pub says_from : r.from ≡ records_at (cells_in file)
   pub says_count : r.count ≡ count_in file
-
-pub head_made : (file : List ℕ) → 9 ≤ length file → (cells from : ℕ) (records : List ℕ) → cells ≡ cells_in file → cells < 65536 → from ≡ records_at cells → records ≡ drop from file →
-    HeadOf file (record { rule = rule_in file; boards = boards_in file; cells = cells; from = from; count = length records / 9 })
-head_made file h cells from records c few f r =
-    let e = le-ltb (length file) 9 h in
-    record {
-      rule_is = rw e;
-      boards_is = rw e;
-      cells_is = rw e c;
-      from_is = rw e (f ∙ ap records_at c);
-      count_is = rw (e, r, length-drop from file, f, c);
-      few_cells = few;
-    }
 
 pub head_says : (file : List ℕ) (r : Head) → HeadOf file r → 9 ≤ length file → Says file r
 head_says file r s h =

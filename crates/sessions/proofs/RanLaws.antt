@@ -35,9 +35,6 @@ use Rattle.sessions.proofs.RunLaws.{length_actions, actions_more, table_more, lo
 -- ---- what an answered action leaves of the latest accepted writes
 
 module _ (a : Action) (told : Answer) (latest : List ℕ) where
-  pub noted_refused : told.number ≢ 0 → Noted a told latest 0 latest
-  noted_refused h = record { counts = rw (ne_eqb told.number 0 h); keeps_length = refl; notes = λ c. rw (ne_eqb told.number 0 h) }
-
   pub noted_other : told.number ≡ 0 → a.code ≢ 1 → Noted a told latest 1 latest
   unfolding is_write
   noted_other e h = record { counts = rw e; keeps_length = refl; notes = λ c. rw (ne_eqb a.code 1 h, e) (same_choice (eqb a.cell c) (get_or latest c 0)) }

@@ -1,4 +1,5 @@
 -- How large the numbers of a run are at most: those of its log, and its two counts. Assumes nothing.
+use mathlib.Core.Bool.{Bool}
 use mathlib.Core.List.{List, [], ◌∷◌}
 use Prim.Native.Nat.{ℕ, zero, suc, ◌+◌, ◌*◌, ◌/◌, ◌<◌, ◌≤◌}
 use native.Mathlib.Omega.{arith}
@@ -9,10 +10,9 @@ use lib.Seq.{get_or-drop}
 use Rattle.protocol.specs.Runs.{Line}
 use Rattle.protocol.proofs.SmallNumbers.{SmallActions, SmallLines, fresh_log_small}
 use Rattle.sessions.specs.File.{Below, le32, values, action_at, actions, rule_in, boards_in, cells_in, starting_in, records_in, records_at}
-use Rattle.sessions.specs.Run.{actions_of, log_of, accepted_in, sum_below, stale_in, stale_of}
+use Rattle.sessions.specs.Run.{actions_of, log_of, accepted_in, count_below, sum_below, stale_in, stale_of}
 use Rattle.sessions.proofs.BytesLaws.{length_starting}
 use Rattle.sessions.proofs.RunLaws.{one_at_most}
-use Rattle.sessions.proofs.StaleLaws.{count_at_most}
 
 -- ---- the numbers of a file of bytes
 
@@ -58,6 +58,11 @@ pub accepted_at_most : (ls : List Line) → accepted_in ls ≤ length ls
 unfolding accepted_in
 accepted_at_most [] = omega arith
 accepted_at_most (l ∷ ls) = omega (arith, one_at_most (eqb l.told.number 0), accepted_at_most ls)
+
+count_at_most : (n : ℕ) (test : ℕ → Bool) → count_below n test ≤ n
+unfolding count_below
+count_at_most zero test = omega arith
+count_at_most (suc n) test = omega (arith, one_at_most (test n), count_at_most n test)
 
 sum_at_most : (n most : ℕ) (count : ℕ → ℕ) → ((c : ℕ) → count c ≤ most) → sum_below n count ≤ n * most
 unfolding sum_below

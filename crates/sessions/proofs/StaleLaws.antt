@@ -1,23 +1,30 @@
 -- Counts that grow from below, and the stale copies by the numbers in the slices. Assumes nothing.
-use mathlib.Core.Path.{◌≡◌, refl, sym, ◌∙◌}
-use mathlib.Core.List.{List, [], ◌∷◌}
-use mathlib.Core.Bool.{Bool, true, false, cond}
+use mathlib.Core.Path.{◌≡◌, refl, ◌∙◌}
+use mathlib.Core.List.{List}
+use mathlib.Core.Bool.{Bool, true, cond}
 use Prim.Native.Nat.{ℕ, zero, suc, ◌+◌, ◌*◌, ◌<◌, ◌≤◌}
 use native.Mathlib.Omega.{arith}
 use native.Mathlib.Numerals.{add-one}
 use lib.ListN.{length, get_or}
-use Rattle.std.specs.List.{between, filter, enumerate_from}
-use Rattle.std.proofs.Common.{zero-add, add-zero}
-use Rattle.sessions.proofs.RunLaws.{one_at_most}
+use Rattle.std.specs.List.{between}
 use Rattle.std.proofs.Math.Nat.{add-mul, mul-le-mul_right}
 use Rattle.std.proofs.lemmas.List.Edits.{length-between, get_or-between}
 use Rattle.protocol.specs.Slices.{copies, masks, Table, sizes_good}
 use Rattle.table.proofs.ReadyLaws.{ready, copy_is, live_is}
 use Rattle.sessions.specs.Run.{is_stale, count_below, sum_below, stale_in}
 
+pub count_more : (n : ℕ) (test : ℕ → Bool) → count_below (n + 1) test ≡ count_below n test + cond (test n) 1 0
+unfolding count_below
+count_more n test = rw (add-one n) (omega arith)
+
 pub sum_more : (n : ℕ) (f : ℕ → ℕ) → sum_below (n + 1) f ≡ sum_below n f + f n
 unfolding sum_below
 sum_more n f = rw (add-one n) (omega arith)
+
+-- the stale copies of the first boards
+module _ (live latest : ℕ) (copy : ℕ → ℕ) where
+  abbrev pub stale_copies : (boards : ℕ) → ℕ
+  stale_copies k = count_below k (λ p. is_stale live p (copy p) latest)
 
 count_same : (n : ℕ) (f g : ℕ → Bool) → ((p : ℕ) → p < n → f p ≡ g p) → count_below n f ≡ count_below n g
 unfolding count_below
@@ -28,41 +35,6 @@ sum_same : (n : ℕ) (f g : ℕ → ℕ) → ((c : ℕ) → c < n → f c ≡ g 
 unfolding sum_below
 sum_same zero f g e = refl
 sum_same (suc n) f g e = rw (e n (omega arith), sum_same n f g (λ c l. e c (omega arith)))
-
-abbrev pub stale_copies : (live latest : ℕ) (copy : ℕ → ℕ) → (boards : ℕ) → ℕ
-stale_copies live latest copy boards = count_below boards (λ p. is_stale live p (copy p) latest)
-
-count_front : (n : ℕ) (test : ℕ → Bool) → count_below (suc n) test ≡ cond (test 0) 1 0 + count_below n (λ p. test (suc p))
-unfolding count_below
-count_front zero test = refl
-count_front (suc n) test = omega (arith, count_front n test)
-
-abbrev pub stale_one : (live latest : ℕ) → ℕ × ℕ → Bool
-stale_one live latest (board, copy) = is_stale live board copy latest
-
--- the stale copies of a slice, whose first board is n
-filtered_from : (live latest n : ℕ) (xs : List ℕ) → length (filter (stale_one live latest) (enumerate_from n xs)) ≡ count_below (length xs) (λ p. is_stale live (n + p) (get_or xs p 0) latest)
-unfolding count_below
-filtered_from live latest n [] = refl
-filtered_from live latest n (x ∷ xs) =
-    let passes : ℕ → Bool = λ p. is_stale live (n + p) (get_or (x ∷ xs) p 0) latest in
-    let first : is_stale live n x latest ≡ passes 0 = rw add-zero in
-    let behind : count_below (length xs) (λ p. is_stale live (n + 1 + p) (get_or xs p 0) latest) ≡ count_below (length xs) (λ p. passes (suc p)) =
-    count_same (length xs) _ _ (λ p h. let e : n + 1 + p ≡ n + suc p = omega arith in rw e) in
-    kept (is_stale live n x latest) ∙ rw (filtered_from live latest (n + 1) xs, behind, first) (sym (count_front (length xs) passes))
-  where
-    kept : (b : Bool) → length (cond b ((n, x) ∷ filter (stale_one live latest) (enumerate_from (n + 1) xs)) (filter (stale_one live latest) (enumerate_from (n + 1) xs)))
-        ≡ cond b 1 0 + length (filter (stale_one live latest) (enumerate_from (n + 1) xs))
-    kept true = omega arith
-    kept false = omega arith
-
-pub filtered : (live latest : ℕ) (xs : List ℕ) → length (filter (stale_one live latest) (enumerate_from 0 xs)) ≡ stale_copies live latest (λ p. get_or xs p 0) (length xs)
-filtered live latest xs = filtered_from live latest 0 xs ∙ count_same (length xs) _ _ (λ p h. rw (zero-add p))
-
-pub count_at_most : (n : ℕ) (test : ℕ → Bool) → count_below n test ≤ n
-unfolding count_below
-count_at_most zero test = omega arith
-count_at_most (suc n) test = omega (arith, one_at_most (test n), count_at_most n test)
 
 -- a cell's copies, cut out of the slice
 pub cell_cut : (boards cells cell : ℕ) (xs : List ℕ) (live latest : ℕ) → cell < cells → length xs ≡ cells * boards →

@@ -3,16 +3,19 @@ ghost use Rattle.std.specs.Prelude.{◌≡◌, ◌≤◌, length, get_or};
 ghost use Rattle.sessions.specs.Run.{count_below, is_stale};
 ghost use Rattle.sessions.specs.Code.{Counted, CountsStale};
 
-// The stale copies of one cell, a copy for each board. `table` has its own test of a board in a mask, which is private.
-fn at_cell(live: u16, copies: &[u32], latest: u32) -> usize
+use protocol::{Board, MASKS_PER_CELL, Mask};
+
+// The stale copies of one cell, a copy for each board.
+fn at_cell(live: Mask, copies: &[u32], latest: u32) -> usize
     requires { length copies.now ≤ 16 }
-    ensures { (result ≡ count_below (length copies.now) (λ p. is_stale live p (get_or copies.now p 0) latest)) × (result ≤ length copies.now) }
+    ensures { (result ≡ count_below (length copies.now) (λ p. is_stale live.bits p (get_or copies.now p 0) latest)) × (result ≤ length copies.now) }
 {
-    copies
-        .iter()
-        .enumerate()
-        .filter(|(board, copy)| (live >> *board) % 2 == 1 && **copy != latest)
-        .count()
+    let mut stale = 0;
+    for (board, copy) in copies.iter().enumerate() {
+        let board = Board { number: board };
+        stale += usize::from(live.has(board) & (*copy != latest));
+    }
+    stale
 }
 
 // The stale copies of all cells, where the table's lengths are right; `latest` has a place for each cell.
@@ -22,7 +25,9 @@ pub fn count(boards: usize, copies: &[u32], masks: &[u16], latest: &[u32]) -> us
 {
     let mut stale = 0;
     for (cell, written) in latest.iter().enumerate() {
-        let live = masks[cell * protocol::MASKS_PER_CELL];
+        let live = Mask {
+            bits: masks[cell * MASKS_PER_CELL],
+        };
         stale += at_cell(live, &copies[cell * boards..(cell + 1) * boards], *written);
     }
     stale

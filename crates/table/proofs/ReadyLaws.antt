@@ -4,7 +4,7 @@ use mathlib.Core.Logic.{◌≢◌}
 use mathlib.Core.Bool.{Bool, true, false, cond}
 use Prim.Native.Nat.{ℕ, ◌+◌, ◌*◌, ◌^◌, ◌<◌, ◌≤◌}
 use native.Mathlib.Omega.{arith}
-use native.Mathlib.Nat.{mul-le-mul_right, mul-le-mul_left}
+use native.Mathlib.Nat.{mul-le-mul_right}
 use native.Mathlib.Decide.{dec_lt}
 use lib.Dec.{eqb}
 use lib.ListN.{length, get_or}
@@ -47,9 +47,6 @@ module _ (boards cells cell : ℕ) (t : Table) (y : Ready boards cells cell t) w
 
   pub copy_in : (board : ℕ) → board < boards → cell * boards + board < length (t copies)
   copy_in board l = omega (arith, row_in)
-
-  pub copy_small : (board : ℕ) → board < boards → cell * boards + board < 8192
-  copy_small board l = omega (arith, mul-le-mul_left cell y.few_boards, y.few_boards, y.inside, y.few_cells)
 
   pub masks_in : cell * 3 + 2 < length (t masks)
   unfolding width
