@@ -1,5 +1,5 @@
 -- `put` puts the whole listing, because 94,232 bytes are always enough. Assumes nothing.
-use Rattle.std.proofs.Common.{◌≡◌, ◌∙◌, ℕ, ◌≤◌, List, Ok, length, take, drop, refl, arith}
+use Rattle.std.proofs.Common.{◌≡◌, ℕ, ◌≤◌, List, Ok, length, take, drop, refl, arith}
 use Rattle.std.proofs.Math.Seq.{take-append_seam}
 use borrow.Author.Tests.{le-ltb}
 use Rattle.listing.specs.Listing.{listing_of}
@@ -19,4 +19,4 @@ pub unwrap-requires : goal.unwrap-requires
 unwrap-requires c = rw (never_20 _ _ _ _ c.requires c.list.ensures) refl
 
 pub returns : goal.returns
-returns c = in_front _ _ _ _ c.requires (rw c.unwrap.ensures at c.list.ensures)
+returns c = let all = in_front _ _ _ _ c.requires (rw c.unwrap.ensures at c.list.ensures) in record { within = all.0; length = all.1; bytes = all.2 }
