@@ -1,217 +1,323 @@
-// The calls: what each has, how a line has it, and what is answered.
-use crate::{print, slices, text};
+// The calls: what each is given, how a line states it, and what is answered.
+use crate::memory::Memory;
+use crate::print::{Contents, Found, Reply, Table};
+use crate::text::Words;
 use protocol::Action;
+use sessions::Head;
+use std::io;
 
-// What a call can have. The parts of a call stand in this order; the table's are main, copies and masks.
-const RULE: u16 = 1;
-
-const SIZES: u16 = 2;
-
-const ACTION: u16 = 4;
-
-const STARTING: u16 = 8;
-
-const FILE: u16 = 16;
-
-const TABLE: u16 = 32;
-
-const OUT: u16 = 64;
-
-const VALUES: u16 = 128;
-
-// The numbers of a call; 0 for those that it has not. The call itself is its number, 256 times, and its parts.
 #[derive(Clone, Copy)]
-struct Asked {
-    call: u16,
-    rule: u8,
+pub struct Sizes {
     boards: usize,
     cells: usize,
-    act: Action,
 }
 
-fn if_named(name: &[u8], expected: &[u8], number: u16, parts: u16) -> u16 {
-    if check::same(name, expected) {
-        number << 8 | parts
-    } else {
-        0
+// Each slice is a part of memory of its own. A table's three are no struct: tried, and nothing is proved of a call by value that holds one with
+// `&mut` slices.
+#[derive(Drop)]
+pub enum Call<'a> {
+    InRange {
+        sizes: Sizes,
+    },
+    SizesGood {
+        sizes: Sizes,
+        main: &'a [u32],
+        copies: &'a [u32],
+        masks: &'a [u16],
+    },
+    Fresh {
+        sizes: Sizes,
+        starting: &'a [u32],
+        main: &'a mut [u32],
+        copies: &'a mut [u32],
+        masks: &'a mut [u16],
+    },
+    Check {
+        rule: u8,
+        sizes: Sizes,
+        main: &'a [u32],
+        copies: &'a [u32],
+        masks: &'a [u16],
+    },
+    Step {
+        rule: u8,
+        sizes: Sizes,
+        action: Action,
+        main: &'a mut [u32],
+        copies: &'a mut [u32],
+        masks: &'a mut [u16],
+    },
+    HeadOf {
+        file: &'a [u8],
+    },
+    Read {
+        file: &'a [u8],
+        starting: &'a mut [u32],
+    },
+    Write {
+        rule: u8,
+        sizes: Sizes,
+        starting: &'a [u32],
+        records: &'a [u8],
+        out: &'a mut [u8],
+    },
+    Run {
+        file: &'a [u8],
+        main: &'a mut [u32],
+        copies: &'a mut [u32],
+        masks: &'a mut [u16],
+        numbers: &'a mut [u8],
+        values: &'a mut [u32],
+    },
+    List {
+        file: &'a [u8],
+        out: &'a mut [u8],
+    },
+}
+
+impl Sizes {
+    fn read(words: &mut Words) -> Option<Sizes> {
+        Some(Sizes {
+            boards: words.number()?,
+            cells: words.number()?,
+        })
     }
 }
 
-// The call of `table` with a name; 0 where there is none.
-fn of_table(name: &[u8]) -> u16 {
-    if_named(name, b"in_range", 1, SIZES)
-        | if_named(name, b"sizes_good", 2, SIZES | TABLE)
-        | if_named(name, b"fresh", 3, SIZES | STARTING | TABLE)
-        | if_named(name, b"check", 4, RULE | SIZES | TABLE)
-        | if_named(name, b"step", 5, RULE | SIZES | ACTION | TABLE)
+fn read_action(words: &mut Words) -> Option<Action> {
+    Some(Action {
+        code: words.number()?,
+        board: words.number()?,
+        to: words.number()?,
+        cell: words.number()?,
+        value: words.number()?,
+    })
 }
 
-// The call of `sessions` or `listing` with a name; 0 where there is none.
-fn of_file(name: &[u8]) -> u16 {
-    if_named(name, b"head_of", 6, FILE)
-        | if_named(name, b"read", 7, FILE | VALUES)
-        | if_named(name, b"write", 8, RULE | SIZES | STARTING | FILE | OUT)
-        | if_named(name, b"run", 9, FILE | TABLE | OUT | VALUES)
-        | if_named(name, b"list", 10, FILE | OUT)
-}
-
-// A part of what was read: its numbers, 0, or else its records.
-fn tell(records: &[u8], number: u8, rule: u8, boards: usize, cells: usize, part: u8) {
-    if part == 0 {
-        print::first(number as usize);
-        print::next(rule as usize);
-        print::next(boards);
-        print::next(cells);
-    } else {
-        print::bytes(true, records);
+impl<'a> Call<'a> {
+    // The call that a line states: its name and its numbers, a bar, and each slice up to a bar. `None` where it states none.
+    pub fn read(line: &[u8], memory: &'a mut Memory) -> Option<Call<'a>> {
+        let mut words = Words::new(std::str::from_utf8(line).ok()?);
+        let Memory {
+            starting,
+            file,
+            main,
+            copies,
+            masks,
+            out,
+            values,
+        } = memory;
+        let call = match words.word()? {
+            "in_range" => Call::InRange {
+                sizes: Sizes::read(&mut words)?,
+            },
+            "sizes_good" => {
+                let sizes = Sizes::read(&mut words)?;
+                words.bar()?;
+                Call::SizesGood {
+                    sizes,
+                    main: words.slice(main)?,
+                    copies: words.slice(copies)?,
+                    masks: words.slice(masks)?,
+                }
+            }
+            "fresh" => {
+                let sizes = Sizes::read(&mut words)?;
+                words.bar()?;
+                Call::Fresh {
+                    sizes,
+                    starting: words.slice(starting)?,
+                    main: words.slice(main)?,
+                    copies: words.slice(copies)?,
+                    masks: words.slice(masks)?,
+                }
+            }
+            "check" => {
+                let rule = words.number()?;
+                let sizes = Sizes::read(&mut words)?;
+                words.bar()?;
+                Call::Check {
+                    rule,
+                    sizes,
+                    main: words.slice(main)?,
+                    copies: words.slice(copies)?,
+                    masks: words.slice(masks)?,
+                }
+            }
+            "step" => {
+                let rule = words.number()?;
+                let sizes = Sizes::read(&mut words)?;
+                let action = read_action(&mut words)?;
+                words.bar()?;
+                Call::Step {
+                    rule,
+                    sizes,
+                    action,
+                    main: words.slice(main)?,
+                    copies: words.slice(copies)?,
+                    masks: words.slice(masks)?,
+                }
+            }
+            "head_of" => {
+                words.bar()?;
+                Call::HeadOf {
+                    file: words.slice(file)?,
+                }
+            }
+            "read" => {
+                words.bar()?;
+                Call::Read {
+                    file: words.slice(file)?,
+                    starting: words.slice(starting)?,
+                }
+            }
+            "write" => {
+                let rule = words.number()?;
+                let sizes = Sizes::read(&mut words)?;
+                words.bar()?;
+                Call::Write {
+                    rule,
+                    sizes,
+                    starting: words.slice(starting)?,
+                    records: words.slice(file)?,
+                    out: words.slice(out)?,
+                }
+            }
+            "run" => {
+                words.bar()?;
+                Call::Run {
+                    file: words.slice(file)?,
+                    main: words.slice(main)?,
+                    copies: words.slice(copies)?,
+                    masks: words.slice(masks)?,
+                    numbers: words.slice(out)?,
+                    values: words.slice(values)?,
+                }
+            }
+            "list" => {
+                words.bar()?;
+                Call::List {
+                    file: words.slice(file)?,
+                    out: words.slice(out)?,
+                }
+            }
+            _ => return None,
+        };
+        words.end()?;
+        Some(call)
     }
-}
 
-fn read_and_tell(file: &[u8], starting: &mut [u32], part: u8) {
-    let s = sessions::read(file, starting);
-    tell(s.records, s.number, s.rule, s.boards, s.cells, part);
-}
-
-// The starting values that `read` is lent stand behind the file, where `run` has its values.
-fn ask(
-    a: Asked,
-    starting: &[u32],
-    file: &[u8],
-    main: &mut [u32],
-    copies: &mut [u32],
-    masks: &mut [u16],
-    out: &mut [u8],
-    values: &mut [u32],
-) {
-    match a.call >> 8 {
-        1 => print::first(table::in_range(a.boards, a.cells) as usize),
-        2 => print::first(table::sizes_good(a.boards, a.cells, main, copies, masks) as usize),
-        3 => print::answer(table::fresh(a.boards, a.cells, starting, main, copies, masks)),
-        4 => print::found(table::check(a.rule, a.boards, a.cells, main, copies, masks)),
-        5 => print::answer(table::step(a.rule, a.boards, a.cells, main, copies, masks, a.act)),
-        6 => print::head(sessions::head_of(file)),
-        7 => read_and_tell(file, values, 0),
-        8 => print::answer(sessions::write(a.rule, a.boards, a.cells, starting, file, out)),
-        9 => print::report(sessions::run(file, main, copies, masks, out, values)),
-        _ => print::listed(listing::list(file, out)),
+    // Tells the answer, a bar, and what the slices hold then.
+    pub fn answer(self, to: &impl Print) -> io::Result<()> {
+        match self {
+            Call::InRange { sizes } => {
+                let good = table::in_range(sizes.boards, sizes.cells);
+                println!(to; "{}", u8::from(good))
+            }
+            Call::SizesGood {
+                sizes,
+                main,
+                copies,
+                masks,
+            } => {
+                let good = table::sizes_good(sizes.boards, sizes.cells, main, copies, masks);
+                println!(to; "{} |{}", u8::from(good), Table(main, copies, masks))
+            }
+            Call::Fresh {
+                sizes,
+                starting,
+                main,
+                copies,
+                masks,
+            } => {
+                let done = table::fresh(sizes.boards, sizes.cells, starting, main, copies, masks);
+                let (reply, table) = (Reply(done.map(|()| [0])), Table(main, copies, masks));
+                println!(to; "{reply} |{}{table}", Contents(starting))
+            }
+            Call::Check {
+                rule,
+                sizes,
+                main,
+                copies,
+                masks,
+            } => {
+                let found = table::check(rule, sizes.boards, sizes.cells, main, copies, masks);
+                println!(to; "{} |{}", Found(found), Table(main, copies, masks))
+            }
+            Call::Step {
+                rule,
+                sizes,
+                action,
+                main,
+                copies,
+                masks,
+            } => {
+                let done = table::step(
+                    rule,
+                    sizes.boards,
+                    sizes.cells,
+                    main,
+                    copies,
+                    masks,
+                    action,
+                );
+                let reply = Reply(done.map(|value| [value as usize]));
+                println!(to; "{reply} |{}", Table(main, copies, masks))
+            }
+            Call::HeadOf { file } => {
+                let Head {
+                    rule,
+                    boards,
+                    cells,
+                    from,
+                    count,
+                } = sessions::head_of(file);
+                println!(to;
+                    "{rule} {boards} {cells} {from} {count} |{}",
+                    Contents(file)
+                )
+            }
+            Call::Read { file, starting } => {
+                let (told, records) = match sessions::read(file, starting) {
+                    Ok(session) => (
+                        Ok([session.rule as usize, session.boards, session.cells]),
+                        session.records,
+                    ),
+                    Err(refused) => (Err(refused), &[][..]),
+                };
+                let (file, starting) = (Contents(file), Contents(starting));
+                println!(to; "{} |{file}{starting}{}", Reply(told), Contents(records))
+            }
+            Call::Write {
+                rule,
+                sizes,
+                starting,
+                records,
+                out,
+            } => {
+                let done = sessions::write(rule, sizes.boards, sizes.cells, starting, records, out);
+                let reply = Reply(done.map(|()| [0]));
+                let (starting, records) = (Contents(starting), Contents(records));
+                println!(to; "{reply} |{starting}{records}{}", Contents(out))
+            }
+            Call::Run {
+                file,
+                main,
+                copies,
+                masks,
+                numbers,
+                values,
+            } => {
+                let done = sessions::run(file, main, copies, masks, numbers, values);
+                let reply = Reply(done.map(|report| [report.accepted, report.stale]));
+                let (file, table) = (Contents(file), Table(main, copies, masks));
+                let (numbers, values) = (Contents(numbers), Contents(values));
+                println!(to; "{reply} |{file}{table}{numbers}{values}")
+            }
+            Call::List { file, out } => {
+                let reply = Reply(listing::list(file, out).map(|length| [length]));
+                println!(to; "{reply} |{}{}", Contents(file), Contents(out))
+            }
+        }
     }
-}
-
-// The answer, and what the slices hold then.
-fn answer(
-    asked: Asked,
-    starting: &[u32],
-    file: &[u8],
-    main: &mut [u32],
-    copies: &mut [u32],
-    masks: &mut [u16],
-    out: &mut [u8],
-    values: &mut [u32],
-) {
-    let call = asked.call;
-    ask(asked, starting, file, main, copies, masks, out, values);
-    print::end(call >> 8 != 1, 0, 0);
-    print::values(call & STARTING != 0, starting);
-    print::bytes(call & FILE != 0, file);
-    print::table(call & TABLE != 0, main, copies, masks);
-    print::bytes(call & OUT != 0, out);
-    print::values(call & VALUES != 0, values);
-    if call >> 8 == 7 {
-        read_and_tell(file, values, 1);
-    }
-}
-
-// Each slice is lent from memory of its own.
-fn lend(line: &[u8], at: usize, asked: Asked) -> bool {
-    let mut starting = [0u32; 8300];
-    let mut file = [0u8; 100000];
-    let s = slices::values(line, at, asked.call & STARTING != 0, &mut starting);
-    let f = slices::bytes(line, s.1, asked.call & FILE != 0, &mut file);
-    lend_table(line, f.1, asked, &starting[..s.0], &file[..f.0])
-}
-
-fn lend_table(line: &[u8], at: usize, asked: Asked, starting: &[u32], file: &[u8]) -> bool {
-    let has = asked.call & TABLE != 0;
-    let mut main = [0u32; 8300];
-    let mut copies = [0u32; 8300];
-    let mut masks = [0u16; 2100];
-    let m = slices::values(line, at, has, &mut main);
-    let c = slices::values(line, m.1, has, &mut copies);
-    let k = slices::masks(line, c.1, has, &mut masks);
-    lend_out(
-        line,
-        k.1,
-        asked,
-        starting,
-        file,
-        &mut main[..m.0],
-        &mut copies[..c.0],
-        &mut masks[..k.0],
-    )
-}
-
-fn lend_out(
-    line: &[u8],
-    at: usize,
-    asked: Asked,
-    starting: &[u32],
-    file: &[u8],
-    main: &mut [u32],
-    copies: &mut [u32],
-    masks: &mut [u16],
-) -> bool {
-    let mut out = [0u8; 100000];
-    let mut values = [0u32; 8300];
-    let o = slices::bytes(line, at, asked.call & OUT != 0, &mut out);
-    let v = slices::values(line, o.1, asked.call & VALUES != 0, &mut values);
-    if v.1 != line.len() {
-        return false;
-    }
-    answer(
-        asked,
-        starting,
-        file,
-        main,
-        copies,
-        masks,
-        &mut out[..o.0],
-        &mut values[..v.0],
-    );
-    true
-}
-
-// Answers a line, and says whether it is a call.
-pub fn call(line: &[u8]) -> bool {
-    let end = text::find(line, 0, b' ');
-    let name = &line[..end];
-    let call = of_table(name) | of_file(name);
-    if call == 0 {
-        return false;
-    }
-    let rule = text::number(line, end, call & RULE != 0, 255);
-    let sizes = call & SIZES != 0;
-    let boards = text::number(line, rule.1, sizes, usize::MAX);
-    let cells = text::number(line, boards.1, sizes, usize::MAX);
-    let acts = call & ACTION != 0;
-    let code = text::number(line, cells.1, acts, 255);
-    let board = text::number(line, code.1, acts, 255);
-    let to = text::number(line, board.1, acts, 255);
-    let cell = text::number(line, to.1, acts, 65535);
-    let value = text::number(line, cell.1, acts, 4294967295);
-    let next = text::bar(line, value.1, call >> 8 != 1);
-    let act = Action {
-        code: code.0 as u8,
-        board: board.0 as u8,
-        to: to.0 as u8,
-        cell: cell.0 as u16,
-        value: value.0 as u32,
-    };
-    let asked = Asked {
-        call,
-        rule: rule.0 as u8,
-        boards: boards.0,
-        cells: cells.0,
-        act,
-    };
-    lend(line, next, asked)
 }

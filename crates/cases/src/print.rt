@@ -1,105 +1,82 @@
-// What a line of the answer is made of: words, numbers, and the contents of slices.
-pub fn text(s: &[u8]) {
-    io::write_all(1, s);
-}
+// How the answer of a call and what its slices hold are told.
+use protocol::Refused;
+use std::fmt;
+use std::fmt::{Display, Formatter};
 
-pub fn first(n: usize) {
-    io::print_decimal(1, n as u64);
-}
+// The contents of a slice, and a bar.
+#[derive(Drop)]
+pub struct Contents<'a, T>(pub &'a [T]);
 
-pub fn next(n: usize) {
-    text(b" ");
-    first(n);
-}
-
-fn labelled(s: &[u8], n: usize) {
-    text(s);
-    next(n);
-}
-
-pub fn answer(a: protocol::Answer) {
-    first(a.number as usize);
-    next(a.value as usize);
-}
-
-pub fn found(c: table::Checked) {
-    match c {
-        table::Checked::Sound => text(b"sound"),
-        table::Checked::Unsound(cell) => labelled(b"unsound", cell),
-        table::Checked::Refused(n) => labelled(b"refused", n as usize),
-    }
-}
-
-pub fn head(h: sessions::Head) {
-    first(h.rule as usize);
-    next(h.boards);
-    next(h.cells);
-    next(h.from);
-    next(h.count);
-}
-
-pub fn report(r: sessions::Report) {
-    first(r.number as usize);
-    next(r.accepted);
-    next(r.stale);
-}
-
-pub fn listed(l: listing::Listed) {
-    first(l.number as usize);
-    next(l.length);
-}
+// The largest prime below 2^32.
+const PRIME: u64 = 4294967291;
 
 // Up to 64 numbers are told one by one, and more by a sum in which each number and its place counts.
-fn tell(length: usize, sum: u64, n: u32) -> u64 {
-    if length <= 64 {
-        next(n as usize);
-        return 0;
+impl<T: Copy> Display for Contents<'_, T>
+where
+    u32: From<T>,
+{
+    fn fmt<W: fmt::Write>(&self, f: &mut Formatter<W>) -> fmt::Result {
+        let numbers = self.0;
+        if numbers.len() <= 64 {
+            for number in numbers {
+                write!(f, " {}", u32::from(*number))?;
+            }
+        } else {
+            // the first remainder is the sum itself, and shows that nothing here overflows
+            let sum = numbers.iter().fold(0, |sum, number| {
+                (sum % PRIME * 31 + u64::from(u32::from(*number))) % PRIME
+            });
+            write!(f, " {} numbers, sum {sum}", numbers.len())?;
+        }
+        write!(f, " |")
     }
-    (sum % 4294967291 * 31 + n as u64) % 4294967291
 }
 
-pub fn end(has: bool, length: usize, sum: u64) {
-    if length > 64 {
-        next(length);
-        labelled(b" numbers, sum", sum as usize);
-    }
-    if has {
-        text(b" |");
+// The contents of a table: main, copies and masks.
+#[derive(Drop)]
+pub struct Table<'a>(pub &'a [u32], pub &'a [u32], pub &'a [u16]);
+
+impl Display for Table<'_> {
+    fn fmt<W: fmt::Write>(&self, f: &mut Formatter<W>) -> fmt::Result {
+        let Table(main, copies, masks) = self;
+        write!(
+            f,
+            "{}{}{}",
+            Contents(main),
+            Contents(copies),
+            Contents(masks)
+        )
     }
 }
 
-pub fn bytes(has: bool, s: &[u8]) {
-    let mut sum = 0;
-    let mut i = 0;
-    while i < s.len() {
-        sum = tell(s.len(), sum, s[i] as u32);
-        i += 1;
+// What a check found.
+#[derive(Drop)]
+pub struct Found(pub Result<Option<usize>, Refused>);
+
+impl Display for Found {
+    fn fmt<W: fmt::Write>(&self, f: &mut Formatter<W>) -> fmt::Result {
+        match self.0 {
+            Ok(None) => write!(f, "sound"),
+            Ok(Some(cell)) => write!(f, "unsound {cell}"),
+            Err(refused) => write!(f, "refused {}", refused.number()),
+        }
     }
-    end(has, s.len(), sum);
 }
 
-pub fn masks(has: bool, s: &[u16]) {
-    let mut sum = 0;
-    let mut i = 0;
-    while i < s.len() {
-        sum = tell(s.len(), sum, s[i] as u32);
-        i += 1;
-    }
-    end(has, s.len(), sum);
-}
+// The number of a reply, 0 where the call was accepted, and behind it what was answered, each 0 where it was refused.
+#[derive(Drop)]
+pub struct Reply<const N: usize>(pub Result<[usize; N], Refused>);
 
-pub fn values(has: bool, s: &[u32]) {
-    let mut sum = 0;
-    let mut i = 0;
-    while i < s.len() {
-        sum = tell(s.len(), sum, s[i]);
-        i += 1;
+impl<const N: usize> Display for Reply<N> {
+    fn fmt<W: fmt::Write>(&self, f: &mut Formatter<W>) -> fmt::Result {
+        let (number, answered) = match self.0 {
+            Ok(answered) => (0, answered),
+            Err(refused) => (refused.number(), [0; N]),
+        };
+        write!(f, "{number}")?;
+        for value in answered {
+            write!(f, " {value}")?;
+        }
+        Ok(())
     }
-    end(has, s.len(), sum);
-}
-
-pub fn table(has: bool, main: &[u32], copies: &[u32], marks: &[u16]) {
-    values(has, main);
-    values(has, copies);
-    masks(has, marks);
 }

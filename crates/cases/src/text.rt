@@ -1,74 +1,84 @@
-// Reading a line from a place on. What is read comes with the place behind it, or with NOWHERE where it does not stand there.
-ghost use Rattle.std.specs.Prelude.{◌≤◌, length};
+// What a line is made of: words with one blank between two. Each is taken in turn, and `None` says that it is not what has to stand there.
+use crate::memory::BYTES;
+use std::num::ParseIntError;
+use std::slice::IterMut;
+use std::str::{FromStr, Split};
 
-pub const NOWHERE: usize = usize::MAX;
+#[derive(Drop)]
+pub struct Words<'a>(Split<'a, char>);
 
-// A number, and the place behind it.
-#[derive(Clone, Copy)]
-pub struct Read(pub usize, pub usize);
-
-// Where a byte stands next, from a place on; the end where it does not.
-pub fn find(line: &[u8], from: usize, byte: u8) -> usize
-    requires { from ≤ length line.now }
-    ensures { (from ≤ result) × (result ≤ length line.now) }
-{
-    let mut at = from;
-    while at < line.len() && line[at] != byte {
-        at += 1;
+// A number of decimal digits alone, where `parse` takes a sign too.
+fn parse_digits<T: FromStr<Err = ParseIntError>>(digits: &str) -> Option<T> {
+    if digits.starts_with('+') {
+        return None;
     }
-    at
+    digits.parse().ok()
 }
 
-// The place behind a byte.
-pub fn behind(line: &[u8], at: usize, byte: u8) -> usize {
-    if at < line.len() && line[at] == byte {
-        return at + 1;
+// Stores a number, or several with dots between them, in the next places.
+fn store_group<T: Copy + FromStr<Err = ParseIntError>>(
+    group: &str,
+    places: &mut IterMut<'_, T>,
+) -> Option<()> {
+    for digits in group.split('.') {
+        *places.next()? = parse_digits(digits)?;
     }
-    NOWHERE
+    Some(())
 }
 
-// The place behind a blank and a bar, where the call has one.
-pub fn bar(line: &[u8], at: usize, has: bool) -> usize {
-    if !has {
-        return at;
+// Stores a group, as often as a count and a star before it say: behind a count of 0 stands none.
+fn store<T: Copy + FromStr<Err = ParseIntError>>(
+    word: &str,
+    places: &mut IterMut<'_, T>,
+) -> Option<()> {
+    let Some((count, group)) = word.split_once('*') else {
+        return store_group(word, places);
+    };
+    let count = parse_digits(count)?;
+    if count > BYTES || count == 0 && !group.is_empty() {
+        return None;
     }
-    behind(line, behind(line, at, b' '), b'|')
+    for _ in 0..count {
+        store_group(group, places)?;
+    }
+    Some(())
 }
 
-// Less than 10 for the ten digits alone.
-fn digit(byte: u8) -> usize {
-    byte.wrapping_sub(b'0') as usize
-}
+impl<'a> Words<'a> {
+    pub fn new(line: &'a str) -> Words<'a> {
+        Words(line.split(' '))
+    }
 
-// A number of decimal digits that is at most as large as it may be.
-pub fn digits(line: &[u8], from: usize, most: usize) -> Read
-    ensures { result.0 ≤ most }
-{
-    let mut at = from;
-    let mut value = 0;
-    while at < line.len() && digit(line[at]) < 10 {
-        let d = digit(line[at]);
-        if most < d {
-            return Read(0, NOWHERE);
+    pub fn word(&mut self) -> Option<&'a str> {
+        self.0.next()
+    }
+
+    pub fn number<T: FromStr<Err = ParseIntError>>(&mut self) -> Option<T> {
+        parse_digits(self.word()?)
+    }
+
+    pub fn bar(&mut self) -> Option<()> {
+        (self.word()? == "|").then_some(())
+    }
+
+    pub fn end(&mut self) -> Option<()> {
+        self.word().is_none().then_some(())
+    }
+
+    // The contents of a slice, up to a bar: gives the part of the room that they fill.
+    pub fn slice<'m, T: Copy + FromStr<Err = ParseIntError>>(
+        &mut self,
+        room: &'m mut [T],
+    ) -> Option<&'m mut [T]> {
+        let most = room.len();
+        let mut places = room.iter_mut();
+        for word in &mut self.0 {
+            if word == "|" {
+                let filled = most.checked_sub(places.len())?;
+                return room.get_mut(..filled);
+            }
+            store(word, &mut places)?;
         }
-        if (most - d) / 10 < value {
-            return Read(0, NOWHERE);
-        }
-        value = value * 10 + d;
-        at += 1;
+        None
     }
-    if at == from {
-        return Read(0, NOWHERE);
-    }
-    Read(value, at)
-}
-
-// A blank and a number, where the call has one.
-pub fn number(line: &[u8], at: usize, has: bool, most: usize) -> Read
-    ensures { result.0 ≤ most }
-{
-    if !has {
-        return Read(0, at);
-    }
-    digits(line, behind(line, at, b' '), most)
 }
