@@ -14,7 +14,7 @@ use sessions::{Head, Report};
 // How long the longest listing is.
 const LONGEST: usize = 94232;
 
-// A file, and what its run told.
+// A file, and what its run told. The answers' numbers and values stand in two slices, since `sessions::run` promises to fill two.
 #[derive(Clone, Copy)]
 pub struct Run<'a> {
     pub file: &'a [u8],

@@ -12,6 +12,7 @@ fn read_input<R: Read>(input: &mut R, buffer: &mut [u8]) -> io::Result<usize>
     ensures bound { IfOk result (λ n. n ≤ length buffer.new) }
     ensures first { IfOk result (λ n. IfSome (R.remaining input.old) (λ file. take (length buffer.old) file ≡ take n buffer.new)) }
 {
+    // no method of std's reader serves: `read_exact` says nothing of a shorter input, and `read_to_end` takes memory of the heap
     let mut length = 0;
     while length < buffer.len() {
         let more = input.read(&mut buffer[length..])?;
