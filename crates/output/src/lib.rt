@@ -4,7 +4,7 @@
 ghost use Rattle.std.specs.Prelude.{◌≡◌, ◌≤◌, length, take};
 ghost use Rattle.listing.specs.Listing.{listing_of};
 
-// A slice of 94,232 bytes has room for every listing: answers how long this one is. It is a function of its own, as what `show` writes has no contract.
+// A slice of 94,232 bytes has room for every listing: answers how long this one is. Apart from `show`, since what that writes has no contract.
 fn put(file: &[u8], out: &mut [u8]) -> usize
     requires { 94232 ≤ length out.old }
     ensures within { result ≤ length out.old }
