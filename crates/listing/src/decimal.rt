@@ -5,7 +5,8 @@ ghost use Rattle.listing.specs.Code.{overwritten};
 
 // How many digits a number has.
 pub fn width(n: usize) -> usize
-    ensures { (result ≡ length (digits n)) × (result ≤ 20) }
+    ensures length { result ≡ length (digits n) }
+    ensures few { result ≤ 20 }
 {
     n.checked_ilog10().unwrap_or(0) as usize + 1
 }
@@ -14,7 +15,8 @@ pub fn width(n: usize) -> usize
 // last store, the listing missed its bar beside the twin in C.
 pub fn put(n: usize, out: &mut [u8]) -> usize
     requires { length (digits n) ≤ length out.old }
-    ensures { (result ≡ length (digits n)) × (out.new ≡ overwritten (digits n) out.old) }
+    ensures length { result ≡ length (digits n) }
+    ensures bytes { out.new ≡ overwritten (digits n) out.old }
 {
     if n < 10 {
         out[0] = b'0' + n as u8;

@@ -12,7 +12,8 @@ const NEWLINE: u8 = b'\n';
 // How long a line of at most four numbers is.
 pub fn width(numbers: &[usize]) -> usize
     requires { length numbers.now ≤ 4 }
-    ensures { (result ≡ length (line numbers.now)) × (result ≤ 84) }
+    ensures length { result ≡ length (line numbers.now) }
+    ensures few { result ≤ 84 }
 {
     numbers.iter().map(|n| decimal::width(*n) + 1).sum()
 }
@@ -20,7 +21,8 @@ pub fn width(numbers: &[usize]) -> usize
 // The line: answers how long it is.
 pub fn put(numbers: &[usize], out: &mut [u8]) -> usize
     requires { length (line numbers.now) ≤ length out.old }
-    ensures { (result ≡ length (line numbers.now)) × (out.new ≡ overwritten (line numbers.now) out.old) }
+    ensures length { result ≡ length (line numbers.now) }
+    ensures bytes { out.new ≡ overwritten (line numbers.now) out.old }
 {
     let mut end = 0;
     for (i, n) in numbers.iter().enumerate() {

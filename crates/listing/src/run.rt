@@ -14,7 +14,7 @@ use sessions::{Head, Report};
 // How long the longest listing is.
 const LONGEST: usize = 94232;
 
-// A file, and what its run told.
+// A file, and what its run told. The answers' numbers and values stand in two slices, since `sessions::run` promises to fill two.
 #[derive(Clone, Copy)]
 pub struct Run<'a> {
     pub file: &'a [u8],
@@ -68,7 +68,8 @@ impl Run<'_> {
     // The listing: answers how long it is.
     fn put(&self, out: &mut [u8]) -> usize
         requires { length (run_listing self.now.file.now) ≤ length out.old }
-        ensures { (result ≡ length (run_listing self.now.file.now)) × (out.new ≡ overwritten (run_listing self.now.file.now) out.old) }
+        ensures length { result ≡ length (run_listing self.now.file.now) }
+        ensures bytes { out.new ≡ overwritten (run_listing self.now.file.now) out.old }
     {
         let mut end = line::put(&self.first(), out);
         for i in 0..self.head.count {

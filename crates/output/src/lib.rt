@@ -4,10 +4,12 @@
 ghost use Rattle.std.specs.Prelude.{◌≡◌, ◌≤◌, length, take};
 ghost use Rattle.listing.specs.Listing.{listing_of};
 
-// A slice of 94,232 bytes has room for every listing: answers how long this one is.
+// A slice of 94,232 bytes has room for every listing: answers how long this one is. Apart from `show`, since what that writes has no contract.
 fn put(file: &[u8], out: &mut [u8]) -> usize
     requires { 94232 ≤ length out.old }
-    ensures { (result ≤ length out.old) × (result ≡ length (listing_of file.now)) × (take result out.new ≡ listing_of file.now) }
+    ensures within { result ≤ length out.old }
+    ensures length { result ≡ length (listing_of file.now) }
+    ensures bytes { take result out.new ≡ listing_of file.now }
 {
     listing::list(file, out).unwrap()
 }

@@ -12,6 +12,7 @@ fn read_input<R: Read>(input: &mut R, buffer: &mut [u8]) -> io::Result<usize>
     ensures bound { IfOk result (λ n. n ≤ length buffer.new) }
     ensures first { IfOk result (λ n. IfSome (R.remaining input.old) (λ file. take (length buffer.old) file ≡ take n buffer.new)) }
 {
+    // no method of std's reader serves: `read_exact` says nothing of a shorter input, and `read_to_end` takes memory of the heap
     let mut length = 0;
     while length < buffer.len() {
         let more = input.read(&mut buffer[length..])?;
@@ -25,8 +26,10 @@ fn read_input<R: Read>(input: &mut R, buffer: &mut [u8]) -> io::Result<usize>
 
 // What was read, the first n bytes of the buffer: a file that goes on behind a full buffer lists as they do.
 fn first_bytes<'a>(buffer: &'a [u8], n: usize) -> &'a [u8]
-    requires { (38922 ≤ length buffer.now) × (n ≤ length buffer.now) }
-    ensures { (result.now ≡ take n buffer.now) × ((file : List ℕ) → take (length buffer.now) file ≡ result.now → listing_of result.now ≡ listing_of file) }
+    requires long { 38922 ≤ length buffer.now }
+    requires within { n ≤ length buffer.now }
+    ensures part { result.now ≡ take n buffer.now }
+    ensures alike { (file : List ℕ) → take (length buffer.now) file ≡ result.now → listing_of result.now ≡ listing_of file }
 {
     &buffer[..n]
 }

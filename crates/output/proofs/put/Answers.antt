@@ -19,4 +19,4 @@ pub unwrap-requires : goal.unwrap-requires
 unwrap-requires c = rw (never_20 _ _ _ _ c.requires c.list.ensures) refl
 
 pub returns : goal.returns
-returns c = in_front _ _ _ _ c.requires (rw c.unwrap.ensures at c.list.ensures)
+returns c = let all = in_front _ _ _ _ c.requires (rw c.unwrap.ensures at c.list.ensures) in record { within = all.0; length = all.1; bytes = all.2 }

@@ -14,4 +14,4 @@ returns c =
     let n = c.args.n in
     let log = c.checked_ilog10.ensures in
     let e = by_power n _ log.none log.power_le log.next_power_gt in
-    (omega (arith, c.unwrap_or.ensures, e), omega (arith, c.unwrap_or.ensures, e, few_digits n (omega arith)))
+    record { length = omega (arith, c.unwrap_or.ensures, e); few = omega (arith, c.unwrap_or.ensures, e, few_digits n (omega arith)) }

@@ -10,4 +10,4 @@ pub returns : goal.returns
 returns c =
     let numbers = c.args.numbers.now in
     let e = sum_by_from_yields_List _ numbers c.map.result c.sum.result c.sum.ensures.ran (YieldsList-from_map _ (λ n. length (digits n) + 1) (YieldsList-from_slice numbers cc) c.map.ensures.closure (λ x r q k. search rules)) ∙ sym (length_line_by_sum numbers) in
-    (e, omega (arith, e, short_line numbers (λ i h. omega (arith, c.type_inv.numbers i)), c.requires))
+    record { length = e; few = omega (arith, e, short_line numbers (λ i h. omega (arith, c.type_inv.numbers i)), c.requires) }

@@ -18,7 +18,7 @@ pub returns-then-out-length : goal.returns-then-out-length
 returns-then-out-length c =
     let number = reply_number c.args.refused in
     let w = rw c.number.ensures at c.width-length.ensures in
-    no_room _ _ (omega (arith, length_refused number, w.0, w.1)) (omega (arith, length_refused number, w.0, c.if-out-length.true))
+    no_room _ _ (omega (arith, length_refused number, w.length, w.few)) (omega (arith, length_refused number, w.length, c.if-out-length.true))
 
 pub returns : goal.returns
 returns c =
@@ -27,6 +27,6 @@ returns c =
     let w = rw c.number.ensures at c.width-length.ensures in
     let p = rw c.number.ensures at c.put.ensures in
     let long = length_refused number in
-    let h : 8 + length (line (number ∷ [])) ≤ length old = omega (arith, w.0, c.if-out-length.false) in
-    let all = put_behind word (line (number ∷ [])) old _ 8 h refl (starts _ old c.copy_from_slice.ensures.after) _ p.1 in
-    room _ _ (omega (arith, long, w.0, w.1)) (omega (arith, long, h)) _ _ (omega (arith, long, w.0)) (all ∙ ap (λ bytes. overwritten bytes old) (refused_parts number))
+    let h : 8 + length (line (number ∷ [])) ≤ length old = omega (arith, w.length, c.if-out-length.false) in
+    let all = put_behind word (line (number ∷ [])) old _ 8 h refl (starts _ old c.copy_from_slice.ensures.after) _ p.bytes in
+    room _ _ (omega (arith, long, w.length, w.few)) (omega (arith, long, h)) _ _ (omega (arith, long, w.length)) (all ∙ ap (λ bytes. overwritten bytes old) (refused_parts number))

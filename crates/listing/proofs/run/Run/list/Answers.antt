@@ -8,4 +8,4 @@ pub returns-then-not-fits : goal.returns-then-not-fits
 returns-then-not-fits c = no_room _ _ c.args.self.now.told.short (leb-false _ _ (sym c.fits.ensures ∙ c.if-not-fits.true))
 
 pub returns : goal.returns
-returns c = room _ _ c.args.self.now.told.short (leb-true _ _ (sym c.fits.ensures ∙ c.if-not-fits.false)) _ _ c.put.ensures.0 c.put.ensures.1
+returns c = room _ _ c.args.self.now.told.short (leb-true _ _ (sym c.fits.ensures ∙ c.if-not-fits.false)) _ _ c.put.ensures.length c.put.ensures.bytes

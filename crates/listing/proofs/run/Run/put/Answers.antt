@@ -15,7 +15,11 @@ pub loop-i-init : goal.loop-i-init
 loop-i-init c =
     let p = c.put-end.ensures in
     let first = ap line c.first.ensures in
-    rw (up_to_none c.args.self.now.file.now) (omega (arith, p.0, c.put-end.auto.out, ap length first, length_first c.args.self.now.file.now, c.requires), p.0 ∙ ap length first, p.1 ∙ ap (λ bytes. overwritten bytes c.args.out.now) first)
+    record {
+      within = omega (arith, p.length, c.put-end.auto.out, ap length first, length_first c.args.self.now.file.now, c.requires);
+      end_is = rw (up_to_none c.args.self.now.file.now) (p.length ∙ ap length first);
+      bytes = rw (up_to_none c.args.self.now.file.now) (p.bytes ∙ ap (λ bytes. overwritten bytes c.args.out.now) first);
+    }
 
 pub put-end-requires-in-loop-i : goal.put-end-requires-in-loop-i
 put-end-requires-in-loop-i c =
@@ -23,13 +27,13 @@ put-end-requires-in-loop-i c =
     let run = c.args.self.now in
     let next = ap line c.record.ensures in
     let fits = within _ _ _ _ _ run.told l.i c.loop-i-test.true in
-    rw next (room_behind (up_to run.file.now l.i) _ c.args.out.now _ l.end (omega (arith, fits, c.requires)) l.invariant.1 l.invariant.2)
+    rw next (room_behind (up_to run.file.now l.i) _ c.args.out.now _ l.end (omega (arith, fits, c.requires)) l.invariant.end_is l.invariant.bytes)
 
 pub overflow_add-end : goal.overflow_add-end
 overflow_add-end c =
     let l = c.loop-i in
     let next = ap line c.record.ensures in
-    omega (arith, c.put-end-in-loop-i.ensures.0, ap length next, within _ _ _ _ _ c.args.self.now.told l.i c.loop-i-test.true, c.requires, l.invariant.1)
+    omega (arith, c.put-end-in-loop-i.ensures.length, ap length next, within _ _ _ _ _ c.args.self.now.told l.i c.loop-i-test.true, c.requires, l.invariant.end_is)
 
 pub loop-i-preserved : goal.loop-i-preserved
 loop-i-preserved c =
@@ -39,14 +43,15 @@ loop-i-preserved c =
     let next = ap line c.record.ensures in
     let p = c.put-end-in-loop-i.ensures in
     let fits = within _ _ _ _ _ run.told l.i c.loop-i-test.true in
-    let bytes = rw next at p.1 in
-    let long = length_behind (up_to run.file.now l.i) _ old _ l.end (omega (arith, fits, c.requires)) l.invariant.1 l.invariant.2 _ bytes in
-    let all = put_behind (up_to run.file.now l.i) _ old _ l.end (omega (arith, fits, c.requires)) l.invariant.1 l.invariant.2 _ bytes in
-    let more = up_to_more _ _ _ _ _ run.told l.i c.loop-i-test.true in (
-      omega (arith, long, p.0, ap length next, fits, l.invariant.1, c.requires),
-      omega (arith, p.0, ap length next, l.invariant.1, length_more _ _ _ _ _ run.told l.i c.loop-i-test.true),
-      rw more all,
-    )
+    let bytes = rw next at p.bytes in
+    let long = length_behind (up_to run.file.now l.i) _ old _ l.end (omega (arith, fits, c.requires)) l.invariant.end_is l.invariant.bytes _ bytes in
+    let all = put_behind (up_to run.file.now l.i) _ old _ l.end (omega (arith, fits, c.requires)) l.invariant.end_is l.invariant.bytes _ bytes in
+    let more = up_to_more _ _ _ _ _ run.told l.i c.loop-i-test.true in
+    record {
+      within = omega (arith, long, p.length, ap length next, fits, l.invariant.end_is, c.requires);
+      end_is = omega (arith, p.length, ap length next, l.invariant.end_is, length_more _ _ _ _ _ run.told l.i c.loop-i-test.true);
+      bytes = rw more all;
+    }
 
 pub put-requires : goal.put-requires
 put-requires c =
@@ -54,14 +59,14 @@ put-requires c =
     let run = c.args.self.now in
     let all : l.i ≡ run.head.count = omega arith in
     let last = ap line c.last.ensures in
-    rw last (room_behind (up_to run.file.now l.i) _ c.args.out.now _ l.end (rw all (omega (arith, length_listing _ _ _ _ _ run.told, c.requires))) l.invariant.1 l.invariant.2)
+    rw last (room_behind (up_to run.file.now l.i) _ c.args.out.now _ l.end (rw all (omega (arith, length_listing _ _ _ _ _ run.told, c.requires))) l.invariant.end_is l.invariant.bytes)
 
 pub overflow_add-result : goal.overflow_add-result
 overflow_add-result c =
     let l = c.loop-i in
     let run = c.args.self.now in
     let all : l.i ≡ run.head.count = omega arith in
-    omega (arith, rw all at l.invariant.1, c.put.ensures.0, ap (λ ns. length (line ns)) c.last.ensures, length_listing _ _ _ _ _ run.told, c.requires)
+    omega (arith, rw all at l.invariant.end_is, c.put.ensures.length, ap (λ ns. length (line ns)) c.last.ensures, length_listing _ _ _ _ _ run.told, c.requires)
 
 pub returns : goal.returns
 returns c =
@@ -70,8 +75,10 @@ returns c =
     let all : l.i ≡ run.head.count = omega arith in
     let last = ap line c.last.ensures in
     let p = c.put.ensures in
-    let end = rw all at l.invariant.1 in
-    let long = length_listing _ _ _ _ _ run.told in (
-      omega (arith, end, p.0, ap length last, long),
-      rw (← up_to_all _ _ _ _ _ run.told) (put_behind (up_to run.file.now run.head.count) (last_line run.file.now) c.args.out.now _ l.end (omega (arith, long, c.requires)) end (rw all at l.invariant.2) _ (rw last at p.1)),
-    )
+    let end = rw all at l.invariant.end_is in
+    let long = length_listing _ _ _ _ _ run.told in
+    record {
+      length = omega (arith, end, p.length, ap length last, long);
+      bytes =
+          rw (← up_to_all _ _ _ _ _ run.told) (put_behind (up_to run.file.now run.head.count) (last_line run.file.now) c.args.out.now _ l.end (omega (arith, long, c.requires)) end (rw all at l.invariant.bytes) _ (rw last at p.bytes));
+    }

@@ -5,4 +5,8 @@ use Rattle.listing.proofs.ListingLaws.{up_to}
 use Rattle.listing.proofs.run.Run.put.Given as goal
 
 abbrev pub invariant-loop-i : goal.invariant-loop-i
-invariant-loop-i l = (l.end ≤ length l.out) × (l.end ≡ length (up_to l.self.file.now l.i)) × (l.out ≡ overwritten (up_to l.self.file.now l.i) l.fn.out)
+invariant-loop-i l = record {
+  within : l.end ≤ length l.out;
+  end_is : l.end ≡ length (up_to l.self.file.now l.i);
+  bytes : l.out ≡ overwritten (up_to l.self.file.now l.i) l.fn.out;
+}
