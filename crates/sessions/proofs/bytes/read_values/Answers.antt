@@ -1,7 +1,5 @@
 -- `read_values` fills the slice. Assumes nothing.
-use Rattle.std.proofs.Common.{◌≡◌, ◌<◌, length, refl, ◌∙◌, arith}
-use mathlib.Core.List.{append-nil}
-use lib.Seq.{drop-length}
+use Rattle.std.proofs.Common.{◌<◌, length, refl, arith}
 use Rattle.sessions.specs.File.{values}
 use Rattle.sessions.proofs.BytesLaws.{values_more}
 use Rattle.sessions.proofs.bytes.read_values.Goals as goal
@@ -15,8 +13,3 @@ loop-i-preserved c =
     let l = c.loop-i in
     let h : l.i < length c.args.out.now = omega arith in
     rw (l.invariant, c.read32.ensures) (values_more c.args.s.now c.args.at l.i c.args.out.now h)
-
-pub returns : goal.returns
-returns c =
-    let h : c.loop-i.i ≡ length c.args.out.now = omega arith in
-    c.loop-i.invariant ∙ rw (h, drop-length) (append-nil _)

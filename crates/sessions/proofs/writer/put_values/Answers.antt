@@ -1,6 +1,5 @@
 -- `put_values` stores each value in four bytes, one behind the other. Assumes nothing.
-use Rattle.std.proofs.Common.{◌≡◌, length, ◌∙◌, arith}
-use lib.Seq.{take-length}
+use Rattle.std.proofs.Common.{◌∙◌}
 use Rattle.sessions.specs.File.{packed}
 use Rattle.sessions.proofs.WrittenLaws.{written_none, four_stored, one_more_value}
 use Rattle.sessions.proofs.writer.put_values.Goals as goal
@@ -14,6 +13,3 @@ loop-i-preserved c =
     let l = c.loop-i in
     c.put_bytes.ensures
     ∙ rw (l.invariant, c.to_le_bytes.ensures, four_stored _ (c.type_inv.xs l.i)) (one_more_value _ _ _ _ c.loop-i-test.true c.requires)
-
-pub returns : goal.returns
-returns c = let h : c.loop-i.i ≡ length c.args.xs.now = omega arith in c.loop-i.invariant ∙ rw (h, take-length)
