@@ -14,8 +14,8 @@ fn put(file: &[u8], out: &mut [u8]) -> usize
     listing::list(file, out).unwrap()
 }
 
-// Writes the listing and answers how long it is; a write that fails is said on standard error. No listing is longer than 94,232 bytes: 4,096
-// lines of at most 23, and two more.
+// Writes the listing and answers how long it is, as is promised whether or not it can be written; a write that fails is said on standard error.
+// No listing is longer than 94,232 bytes: 4,096 lines of at most 23, and two more.
 pub fn show(rt: &(impl Print + Eprint), file: &[u8]) -> usize
     ensures { result ≡ length (listing_of file.now) }
 {

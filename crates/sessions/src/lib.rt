@@ -13,7 +13,8 @@ mod writer;
 
 use protocol::Refused;
 
-// What a session file says before its records: its rule, P and N, where the records begin, and how many there are.
+// What a session file says before its records: its rule, P and N, where the records begin, and how many there are. Nothing of it is judged, so its
+// rule is a number.
 #[derive(Clone, Copy, Default)]
 pub struct Head {
     pub rule: u8,
@@ -30,7 +31,7 @@ pub struct Report {
     pub stale: usize,
 }
 
-// What a session file says: its records, a part of the file, and the file's three numbers.
+// What a session file says: its records, a part of the file, and the file's three numbers, as they stand there.
 #[derive(Clone, Copy)]
 pub struct Session<'a> {
     pub records: &'a [u8],
@@ -39,7 +40,8 @@ pub struct Session<'a> {
     pub cells: usize,
 }
 
-// The head of a file, without any judgement; all 0 where it has fewer than nine bytes. What to lend to `read` and `run` follows from it.
+// The head of a file, without any judgement; all 0 where it has fewer than nine bytes, as `HeadOf` promises. What to lend to `read` and `run`
+// follows from it.
 pub fn head_of(file: &[u8]) -> Head
     ensures { HeadOf file.now result }
 {

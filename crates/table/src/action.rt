@@ -7,7 +7,7 @@ ghost use Rattle.protocol.specs.Slices.{table_of};
 ghost use Rattle.protocol.specs.Step.{answer};
 ghost use Rattle.table.specs.Code.{EachBoard, StoresValues, StoresMasks};
 
-use crate::view::View;
+use crate::view::{CellView, View};
 use crate::{cell, rules};
 use protocol::{Action, Board, MASKS_PER_CELL, Mask, Proc, Refused, Rule};
 
@@ -21,19 +21,23 @@ pub fn judge(view: &View, rule: u8, a: Action) -> Result<Proc, Refused>
     if rules::off_board(view.boards, a) {
         return Err(Refused::OffBoard);
     }
-    let cell = a.cell as usize;
-    if cell >= view.cells {
+    let number = a.cell as usize;
+    if number >= view.cells {
         return Err(Refused::NoSuchCell);
     }
-    let m = view.masks_at(cell);
+    let cell = CellView {
+        view: *view,
+        number,
+    };
+    let m = cell.masks();
     if !m.are_sound(ruled, view.boards) {
         return Err(Refused::NotSound);
     }
-    let now = view.current(cell, m.dirty);
-    if !view.copies_sound(ruled, cell, m.live, now) {
+    let now = cell.current(m.dirty);
+    if !cell.copies_sound(ruled, m.live, now) {
         return Err(Refused::NotSound);
     }
-    let copy = view.copy_at(cell, a.board as usize);
+    let copy = cell.copy(a.board as usize);
     rules::guard(ruled, m, copy, now, procedure)?;
     Ok(procedure)
 }

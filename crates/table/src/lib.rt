@@ -1,4 +1,6 @@
 // The table over lent memory: its sizes, a fresh table, a check of the whole table, and one action on it.
+// A rule is a number here, for any may be asked, and one above 4 is refused with 2.
+// The slices are lent one by one: a struct of `&mut` slices needs a clause in each contract, for each of them, that it is still the same reference.
 #![tactic(auto)]
 
 ghost use Rattle.std.specs.Prelude.{◌≡◌};
@@ -11,7 +13,7 @@ mod cell;
 mod rules;
 mod view;
 
-use crate::view::View;
+use crate::view::{CellView, View};
 use protocol::{Action, Board, MASKS_PER_CELL, Refused, Rule};
 
 // P is 1 to 16, and N is 1 to 512.
@@ -71,18 +73,19 @@ pub fn check(
     let view = View::new(boards, cells, main, copies, masks)?;
     let ruled = Rule::try_from(rule)?;
     let mut found = None;
-    'cells: for cell in 0..view.cells {
-        let m = view.masks_at(cell);
+    'cells: for number in 0..view.cells {
+        let cell = CellView { view, number };
+        let m = cell.masks();
         if !m.are_sound(ruled, view.boards) {
-            found = Some(cell);
+            found = Some(number);
             break 'cells;
         }
-        let now = view.current(cell, m.dirty);
+        let now = cell.current(m.dirty);
         'boards: for board in 0..view.boards {
-            let copy = view.copy_at(cell, board);
+            let copy = cell.copy(board);
             let board = Board { number: board };
             if !cell::copy_sound(ruled, m.live, copy, now, board) {
-                found = Some(cell);
+                found = Some(number);
                 break 'cells;
             }
         }

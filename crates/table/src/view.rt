@@ -42,51 +42,59 @@ impl<'a> View<'a> {
             masks,
         })
     }
+}
 
-    pub fn masks_at(&self, cell: usize) -> Masks
-        requires { cell < self.now.cells }
-        ensures { MasksAt self.now.masks.now cell result.live.bits result.dirty.bits result.lock.bits }
+// One cell of such a table.
+#[derive(Clone, Copy)]
+pub struct CellView<'a> {
+    pub view: View<'a>,
+    pub number: usize,
+    ghost inside: { number < view.cells },
+}
+
+impl CellView<'_> {
+    pub fn masks(&self) -> Masks
+        ensures { MasksAt self.now.view.masks.now self.now.number result.live.bits result.dirty.bits result.lock.bits }
     {
-        let at = cell * MASKS_PER_CELL;
+        let at = self.number * MASKS_PER_CELL;
         Masks {
             live: Mask {
-                bits: self.masks[at],
+                bits: self.view.masks[at],
             },
             dirty: Mask {
-                bits: self.masks[at + 1],
+                bits: self.view.masks[at + 1],
             },
             lock: Mask {
-                bits: self.masks[at + 2],
+                bits: self.view.masks[at + 2],
             },
         }
     }
 
-    pub fn copy_at(&self, cell: usize, board: usize) -> u32
-        requires { (cell < self.now.cells) × (board < self.now.boards) }
-        ensures { result ≡ slice_index self.now.copies.now (cell * self.now.boards + board) }
+    pub fn copy(&self, board: usize) -> u32
+        requires { board < self.now.view.boards }
+        ensures { result ≡ slice_index self.now.view.copies.now (self.now.number * self.now.view.boards + board) }
     {
-        self.copies[cell::place(self.boards, cell, board)]
+        self.view.copies[cell::place(self.view.boards, self.number, board)]
     }
 
     // The dirty copy if there is one, else main.
-    pub fn current(&self, cell: usize, dirty: Mask) -> u32
-        requires { (cell < self.now.cells) × (dirty.bits < 2 ^ self.now.boards) }
-        ensures { result ≡ current_at self.now.boards cell dirty.bits self.now.main.now self.now.copies.now }
+    pub fn current(&self, dirty: Mask) -> u32
+        requires { dirty.bits < 2 ^ self.now.view.boards }
+        ensures { result ≡ current_at self.now.view.boards self.now.number dirty.bits self.now.view.main.now self.now.view.copies.now }
     {
         match dirty.lowest() {
-            None => self.main[cell],
-            Some(board) => self.copy_at(cell, board),
+            None => self.view.main[self.number],
+            Some(board) => self.copy(board),
         }
     }
 
     // What all the copies of a cell show. None is left out where one fails: with one way out the loop runs fastest.
-    pub fn copies_sound(&self, rule: Rule, cell: usize, live: Mask, current: u32) -> bool
-        requires { cell < self.now.cells }
-        ensures { result ≡ copies_sound (rule_number rule) self.now.boards cell live.bits current self.now.copies.now self.now.boards }
+    pub fn copies_sound(&self, rule: Rule, live: Mask, current: u32) -> bool
+        ensures { result ≡ copies_sound (rule_number rule) self.now.view.boards self.now.number live.bits current self.now.view.copies.now self.now.view.boards }
     {
         let mut sound = true;
-        for board in 0..self.boards {
-            let copy = self.copy_at(cell, board);
+        for board in 0..self.view.boards {
+            let copy = self.copy(board);
             let board = Board { number: board };
             sound = cell::copy_sound(rule, live, copy, current, board) & sound;
         }

@@ -37,14 +37,14 @@ returns-in_err-ruled c =
     rw (p.1, p.2, c.in_err-ruled.ensures.0) (refused_2 _ _ _ _ (rw (e.sizes.0, e.sizes.1, e.slices.0, e.slices.1, e.slices.2) at s) c.in_err-ruled.ensures.1)
 
 pub current-now-requires : goal.current-now-requires
-current-now-requires c = (c.cells-test.true, masks_below _ _ _ _ _ (sym c.are_sound.ensures ∙ c.if-not-are_sound.false))
+current-now-requires c = masks_below _ _ _ _ _ (sym c.are_sound.ensures ∙ c.if-not-are_sound.false)
 
 pub cells-preserved : goal.cells-preserved
 cells-preserved c =
     let i = c.boards.invariant in
     let e : c.in_ok-view.view.boards ≤ c.boards.board = c.boards-test.false in
     let y = at _ _ _ _ _ c.in_ok-view.view.sized _ c.cells-test.true in
-    let s = all_boards _ _ _ _ _ (low_number _) y _ _ _ c.masks_at-m.ensures (sym c.are_sound.ensures ∙ c.if-not-are_sound.false) _ c.current-now.ensures (λ p l. i.passed p (omega (arith, l, e))) in
+    let s = all_boards _ _ _ _ _ (low_number _) y _ _ _ c.masks-m.ensures (sym c.are_sound.ensures ∙ c.if-not-are_sound.false) _ c.current-now.ensures (λ p l. i.passed p (omega (arith, l, e))) in
     record { nothing = i.nothing; passed = c.cells.invariant.passed ∙ left_step _ _ _ _ _ c.cells-test.true s }
 
 pub returns-after-cells : goal.returns-after-cells
@@ -54,13 +54,13 @@ returns-after-cells c =
 
 pub returns-then-not-are_sound : goal.returns-then-not-are_sound
 returns-then-not-are_sound c =
-    let s = unsound_masks _ _ _ _ _ (low_number _) (at _ _ _ _ _ c.in_ok-view.view.sized _ c.cells-test.true) _ _ _ c.masks_at-m.ensures (sym c.are_sound.ensures ∙ c.if-not-are_sound.true) in
+    let s = unsound_masks _ _ _ _ _ (low_number _) (at _ _ _ _ _ c.in_ok-view.view.sized _ c.cells-test.true) _ _ _ c.masks-m.ensures (sym c.are_sound.ensures ∙ c.if-not-are_sound.true) in
     seen _ _ _ _ _ _ _ _ _ _ _ _ c.in_ok-ruled.ensures c.in_ok-view.view.sized c.in_ok-view.ensures.sizes c.in_ok-view.ensures.slices _ (sym (left_stop _ _ _ _ _ c.cells-test.true s) ∙ sym c.cells.invariant.passed)
 
 pub returns-then-not-copy_sound : goal.returns-then-not-copy_sound
 returns-then-not-copy_sound c =
     let s =
-    unsound_copy _ _ _ _ _ (low_number _) (at _ _ _ _ _ c.in_ok-view.view.sized _ c.cells-test.true) _ _ _ c.masks_at-m.ensures (sym c.are_sound.ensures ∙ c.if-not-are_sound.false) _ c.current-now.ensures _ c.boards-test.true
-    (rw c.copy_at-copy.ensures at (sym c.copy_sound.ensures ∙ c.if-not-copy_sound.true))
+    unsound_copy _ _ _ _ _ (low_number _) (at _ _ _ _ _ c.in_ok-view.view.sized _ c.cells-test.true) _ _ _ c.masks-m.ensures (sym c.are_sound.ensures ∙ c.if-not-are_sound.false) _ c.current-now.ensures _ c.boards-test.true
+    (rw c.copy-copy.ensures at (sym c.copy_sound.ensures ∙ c.if-not-copy_sound.true))
     in
     seen _ _ _ _ _ _ _ _ _ _ _ _ c.in_ok-ruled.ensures c.in_ok-view.view.sized c.in_ok-view.ensures.sizes c.in_ok-view.ensures.slices _ (sym (left_stop _ _ _ _ _ c.cells-test.true s) ∙ sym c.cells.invariant.passed)

@@ -11,11 +11,11 @@ invariant-cells l =
     let left = left_from (rule_number l.ruled) l.view.boards l.view.cells (table_of l.view.main.now l.view.copies.now l.view.masks.now) in
     record {
       nothing : l.found ≡ None;
-      passed : left 0 ≡ left l.cell;
+      passed : left 0 ≡ left l.number;
     }
 
 abbrev pub invariant-boards : goal.invariant-boards
 invariant-boards l = record {
   nothing : l.found ≡ None;
-  passed : (p : ℕ) → p < l.board → copy_sound (rule_number l.ruled) l.m.live.bits (get_or l.view.copies.now (l.cell * l.view.boards + p) 0) l.now p ≡ true;
+  passed : (p : ℕ) → p < l.board → copy_sound (rule_number l.ruled) l.m.live.bits (get_or l.view.copies.now (l.number * l.view.boards + p) 0) l.now p ≡ true;
 }

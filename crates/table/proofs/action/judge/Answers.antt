@@ -32,42 +32,42 @@ returns-in_err-procedure-clause-number c =
 pub returns-then-off_board-clause-number : goal.returns-then-off_board-clause-number
 returns-then-off_board-clause-number c = let n = c.in_ok-procedure.ensures in rw (← c.in_ok-ruled.ensures) (sym ((answers_5 _ _ _ _ _).1 (sized_good _ _ _ _ _ c.args.view.now.sized, low_number _, n.0, n.1, sym c.off_board.ensures ∙ c.if-off_board.true)))
 
-pub returns-then-cell-view-clause-number : goal.returns-then-cell-view-clause-number
-returns-then-cell-view-clause-number c = let n = c.in_ok-procedure.ensures in rw (← c.in_ok-ruled.ensures) (sym ((answers_6 _ _ _ _ _).1 (sized_good _ _ _ _ _ c.args.view.now.sized, low_number _, n.0, n.1, sym c.off_board.ensures ∙ c.if-off_board.false, c.if-cell-view.true)))
+pub returns-then-number-view-clause-number : goal.returns-then-number-view-clause-number
+returns-then-number-view-clause-number c = let n = c.in_ok-procedure.ensures in rw (← c.in_ok-ruled.ensures) (sym ((answers_6 _ _ _ _ _).1 (sized_good _ _ _ _ _ c.args.view.now.sized, low_number _, n.0, n.1, sym c.off_board.ensures ∙ c.if-off_board.false, c.if-number-view.true)))
 
 pub returns-then-not-are_sound-clause-number : goal.returns-then-not-are_sound-clause-number
 returns-then-not-are_sound-clause-number c =
-    let k = past _ _ _ _ _ _ _ _ c.args.view.now.sized c.in_ok-procedure.ensures (sym c.off_board.ensures ∙ c.if-off_board.false) c.if-cell-view.false in
-    rw (← c.in_ok-ruled.ensures) (cleared_masks _ _ _ _ _ k _ _ _ c.masks_at-m.ensures (sym c.are_sound.ensures ∙ c.if-not-are_sound.true))
+    let k = past _ _ _ _ _ _ _ _ c.args.view.now.sized c.in_ok-procedure.ensures (sym c.off_board.ensures ∙ c.if-off_board.false) c.if-number-view.false in
+    rw (← c.in_ok-ruled.ensures) (cleared_masks _ _ _ _ _ k _ _ _ c.masks-m.ensures (sym c.are_sound.ensures ∙ c.if-not-are_sound.true))
 
 pub current-now-requires : goal.current-now-requires
-current-now-requires c = (c.if-cell-view.false, masks_below _ _ _ _ _ (sym c.are_sound.ensures ∙ c.if-not-are_sound.false))
+current-now-requires c = masks_below _ _ _ _ _ (sym c.are_sound.ensures ∙ c.if-not-are_sound.false)
 
 pub returns-then-not-copies_sound-clause-number : goal.returns-then-not-copies_sound-clause-number
 returns-then-not-copies_sound-clause-number c =
-    let k = past _ _ _ _ _ _ _ _ c.args.view.now.sized c.in_ok-procedure.ensures (sym c.off_board.ensures ∙ c.if-off_board.false) c.if-cell-view.false in
+    let k = past _ _ _ _ _ _ _ _ c.args.view.now.sized c.in_ok-procedure.ensures (sym c.off_board.ensures ∙ c.if-off_board.false) c.if-number-view.false in
     rw (← c.in_ok-ruled.ensures)
-    (cleared_copies _ _ _ _ _ k _ _ _ c.masks_at-m.ensures (sym c.are_sound.ensures ∙ c.if-not-are_sound.false) _ c.current-now.ensures (sym c.copies_sound.ensures ∙ c.if-not-copies_sound.true))
+    (cleared_copies _ _ _ _ _ k _ _ _ c.masks-m.ensures (sym c.are_sound.ensures ∙ c.if-not-are_sound.false) _ c.current-now.ensures (sym c.copies_sound.ensures ∙ c.if-not-copies_sound.true))
 
-pub copy_at-copy-requires : goal.copy_at-copy-requires
-copy_at-copy-requires c =
-    let k = past _ _ _ _ _ _ _ _ c.args.view.now.sized c.in_ok-procedure.ensures (sym c.off_board.ensures ∙ c.if-off_board.false) c.if-cell-view.false in
-    (c.if-cell-view.false, (cleared_boards _ _ _ _ _ k).0)
+pub copy-copy-requires : goal.copy-copy-requires
+copy-copy-requires c =
+    let k = past _ _ _ _ _ _ _ _ c.args.view.now.sized c.in_ok-procedure.ensures (sym c.off_board.ensures ∙ c.if-off_board.false) c.if-number-view.false in
+    (cleared_boards _ _ _ _ _ k).0
 
 pub guard-requires : goal.guard-requires
 guard-requires c =
-    let k = past _ _ _ _ _ _ _ _ c.args.view.now.sized c.in_ok-procedure.ensures (sym c.off_board.ensures ∙ c.if-off_board.false) c.if-cell-view.false in
+    let k = past _ _ _ _ _ _ _ _ c.args.view.now.sized c.in_ok-procedure.ensures (sym c.off_board.ensures ∙ c.if-off_board.false) c.if-number-view.false in
     cleared_named _ _ _ _ _ k _ c.in_ok-procedure.ensures.2
 
 pub returns-in_err-guard-clause-number : goal.returns-in_err-guard-clause-number
 returns-in_err-guard-clause-number c =
-    let k = past _ _ _ _ _ _ _ _ c.args.view.now.sized c.in_ok-procedure.ensures (sym c.off_board.ensures ∙ c.if-off_board.false) c.if-cell-view.false in
+    let k = past _ _ _ _ _ _ _ _ c.args.view.now.sized c.in_ok-procedure.ensures (sym c.off_board.ensures ∙ c.if-off_board.false) c.if-number-view.false in
     let p = err_from_is_err_and c.from_residual-in_err-guard.result c.from_residual-in_err-guard.ensures.1 in
     rw (p.1, p.2, ← c.in_ok-ruled.ensures)
-    (cleared_guard _ _ _ _ _ k _ _ _ c.masks_at-m.ensures (sym c.are_sound.ensures ∙ c.if-not-are_sound.false) _ c.current-now.ensures (sym c.copies_sound.ensures ∙ c.if-not-copies_sound.false) _ c.copy_at-copy.ensures _ c.in_ok-procedure.ensures.2 _ c.in_err-guard.ensures)
+    (cleared_guard _ _ _ _ _ k _ _ _ c.masks-m.ensures (sym c.are_sound.ensures ∙ c.if-not-are_sound.false) _ c.current-now.ensures (sym c.copies_sound.ensures ∙ c.if-not-copies_sound.false) _ c.copy-copy.ensures _ c.in_ok-procedure.ensures.2 _ c.in_err-guard.ensures)
 
 pub returns-clause-number : goal.returns-clause-number
 returns-clause-number c =
-    let k = past _ _ _ _ _ _ _ _ c.args.view.now.sized c.in_ok-procedure.ensures (sym c.off_board.ensures ∙ c.if-off_board.false) c.if-cell-view.false in
+    let k = past _ _ _ _ _ _ _ _ c.args.view.now.sized c.in_ok-procedure.ensures (sym c.off_board.ensures ∙ c.if-off_board.false) c.if-number-view.false in
     rw (← c.in_ok-ruled.ensures)
-    (cleared_guard _ _ _ _ _ k _ _ _ c.masks_at-m.ensures (sym c.are_sound.ensures ∙ c.if-not-are_sound.false) _ c.current-now.ensures (sym c.copies_sound.ensures ∙ c.if-not-copies_sound.false) _ c.copy_at-copy.ensures _ c.in_ok-procedure.ensures.2 _ c.in_ok-guard.ensures)
+    (cleared_guard _ _ _ _ _ k _ _ _ c.masks-m.ensures (sym c.are_sound.ensures ∙ c.if-not-are_sound.false) _ c.current-now.ensures (sym c.copies_sound.ensures ∙ c.if-not-copies_sound.false) _ c.copy-copy.ensures _ c.in_ok-procedure.ensures.2 _ c.in_ok-guard.ensures)

@@ -2,7 +2,7 @@
 use Rattle.std.proofs.Common.{◌≡◌}
 use Rattle.protocol.specs.Names.{rule_number}
 use Rattle.table.specs.Code.{copies_sound}
-use Rattle.table.proofs.view.View.copies_sound.Given as goal
+use Rattle.table.proofs.view.CellView.copies_sound.Given as goal
 
 abbrev pub invariant-loop-board : goal.invariant-loop-board
-invariant-loop-board l = l.sound ≡ copies_sound (rule_number l.rule) l.self.boards l.cell l.live.bits l.current l.self.copies.now l.board
+invariant-loop-board l = l.sound ≡ copies_sound (rule_number l.rule) l.self.view.boards l.self.number l.live.bits l.current l.self.view.copies.now l.board
