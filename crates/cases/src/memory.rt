@@ -1,4 +1,5 @@
 // The memory that a call's slices are parts of: each has its own, from its front on, as long as the line says.
+
 // More than any table, file and answers have, so that a slice can be too long.
 pub const BYTES: usize = 100000;
 

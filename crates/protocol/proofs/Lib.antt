@@ -17,6 +17,7 @@ pub mod SoundKept
 pub mod FirstLaws
 pub mod NumberLaws
 pub mod ReplyLaws
+pub mod Unique
 pub mod StepLaws
 pub mod Demand1
 pub mod RunLaws

@@ -15,7 +15,7 @@ use protocol::Refused;
 
 // What a session file says before its records: its rule, P and N, where the records begin, and how many there are. Nothing of it is judged, so its
 // rule is a number.
-#[derive(Clone, Copy, Default)]
+#[derive(Clone, Copy, Debug, Default, PartialEq, Eq)]
 pub struct Head {
     pub rule: u8,
     pub boards: usize,
@@ -25,7 +25,7 @@ pub struct Head {
 }
 
 // What a run reports: how many records were accepted, and how many copies are stale at its end.
-#[derive(Clone, Copy)]
+#[derive(Clone, Copy, Debug, PartialEq, Eq)]
 pub struct Report {
     pub accepted: usize,
     pub stale: usize,
@@ -112,7 +112,7 @@ pub fn run(
 {
     let head = refusals::judged_to_run(file, main, copies, masks, numbers.len(), values.len())?;
     let mut places = [0u32; 512];
-    // For each cell the latest accepted write to it, or its starting value.
+    // for each cell the latest accepted write to it, or its starting value
     let latest = &mut places[..head.cells];
     bytes::read_values(file, 9, latest);
     // The sizes were judged, so this refuses nothing.

@@ -53,7 +53,7 @@ fn body_bad(file: &[u8], from: usize) -> bool
 }
 
 // Bad sizes, no such rule, or a bad body.
-#[tactic(auto, unfolding(crate::specs::FileRefusals::body_refusals), using(table::proofs::ProcedureLaws::low_number))]
+#[tactic(auto, unfolding(crate::specs::FileRefusals::body_refusals), using(protocol::proofs::Unique::low_number))]
 fn judge_body(sizes_bad: bool, rule: u8, body_bad: bool) -> Result<(), Refused>
     ensures { number_of_reply result ≡ first_number (body_refusals sizes_bad rule body_bad) }
 {

@@ -1,4 +1,4 @@
-// The bytes of a session file put into a lent slice, and what stands against it.
+// The bytes of a session file put into a lent slice.
 ghost use Rattle.std.specs.Prelude.{◌≡◌, ◌+◌, ◌*◌, ◌≤◌, length};
 ghost use Rattle.sessions.specs.File.{packed, headed};
 ghost use Rattle.sessions.specs.Written.{written};

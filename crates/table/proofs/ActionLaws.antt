@@ -12,7 +12,7 @@ use Rattle.std.specs.Prelude.{Ok, Err}
 use Rattle.protocol.specs.declared.Action.{Action}
 use Rattle.protocol.specs.declared.Proc.{Proc}
 use Rattle.protocol.specs.declared.Refused.{Refused}
-use Rattle.protocol.specs.declared.Refused.TheVariants.{BadSizes}
+use Rattle.protocol.specs.declared.Refused.TheVariants.{BadSizes, BadRule}
 use Rattle.protocol.specs.declared.Rule.{Rule}
 use Rattle.protocol.specs.Names.{rule_number, rule_of, proc_of, Has}
 use Rattle.protocol.specs.Replies.{reply_number, answer_of}
@@ -28,12 +28,13 @@ use Rattle.protocol.proofs.NumberLaws.{code_fits, has_exactly}
 use Rattle.protocol.proofs.ReplyLaws.{not_accepted}
 use Rattle.protocol.proofs.StepLaws.{accepted_value}
 use Rattle.protocol.proofs.Demand1.{accepted_exactly, refused_changes_nothing}
-use Rattle.protocol.proofs.RefusalOrder.{answers_1, answers_3, answers_4, answers_7, answers_guard}
+use Rattle.protocol.proofs.RefusalOrder.{answers_1, answers_2, answers_3, answers_4, answers_7, answers_guard}
 use Rattle.table.specs.Statements.{Holds, Steps}
 use Rattle.table.specs.Code.{Ready, EachBoard, board_of, Names, MasksAt, current_at, masks_sound, copies_sound, GuardGives, Leaves, Values}
 use Rattle.table.proofs.ReadyLaws.{ready, copy_is, as_live, as_dirty, as_lock, current_is}
 use Rattle.table.proofs.SoundLaws.{masks_below, unsound_masks, by_copies}
-use Rattle.table.proofs.ProcedureLaws.{rule_is, each_board, board_is}
+use Rattle.protocol.proofs.Unique.{rule_is}
+use Rattle.table.proofs.ProcedureLaws.{each_board, board_is}
 
 -- the boards of an action that is well formed and on the table: an unused `to` is 0
 both_boards_in : (boards : ℕ) (a : Action) → 1 ≤ boards → malformed a ≡ false → off_board boards a ≡ false → (a.board < boards) × (a.to < boards)
@@ -72,6 +73,9 @@ module _ (rule boards cells : ℕ) (t : Table) (a : Action) where
 
   pub badly_sized : sizes_good boards cells t ≡ false → Steps boards cells t rule a (answer_of (Err BadSizes)) t
   badly_sized b = stopped BadSizes (sym ((answers_1 rule boards cells t a).1 b))
+
+  pub unruled : sizes_good boards cells t ≡ true → 4 < rule → Steps boards cells t rule a (answer_of (Err BadRule)) t
+  unruled s l = stopped BadRule (sym ((answers_2 rule boards cells t a).1 (s, l)))
 
   -- accepted: the action's value, and its effect stored
   pub went : (r : ℕ) (m k w : List ℕ) → 0 ≡ (answer rule boards cells t a).number → Values boards cells a.cell t (proc_of a) r m k → Leaves boards cells a.cell t (proc_of a) masks w →

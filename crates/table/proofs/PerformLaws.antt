@@ -83,51 +83,49 @@ module _ (boards cells cell : ℕ) (t : Table) (y : Ready boards cells cell t) w
 
   -- ---- the masks
 
-  -- w' is w with a board put into the mask at a place, or taken out of it
-  abbrev pub Put : (at p : ℕ) → (w w' : List ℕ) → Type 0
-  Put at p w w' = w' ≡ set w at (with_board (get_or w at 0) p)
-
-  abbrev pub Taken : (at p : ℕ) → (w w' : List ℕ) → Type 0
-  Taken at p w w' = w' ≡ set w at (without_board (get_or w at 0) p)
-
   abbrev LeavesMasks : Proc → (w' : List ℕ) → Type 0
   LeavesMasks a w' = Leaves boards cells cell t a masks w'
+
+  -- the mask at a place in the masks
+  abbrev mask : (at : ℕ) → ℕ
+  mask at = get_or (t masks) at 0
 
   pub read_masks : (p : ℕ) → LeavesMasks (Read p) (t masks)
   unfolding effect stores_by store_by slice_number cell_by_cell width
   read_masks p r = refl
 
-  pub write_masks : (p v : ℕ) (w w' : List ℕ) → Put (cell * 3) p (t masks) w → Put (cell * 3 + 1) p w w' → LeavesMasks (Write p v) w'
+  pub write_masks : (p v x z : ℕ) → x ≡ with_board (mask (cell * 3)) p → z ≡ with_board (get_or (set (t masks) (cell * 3) x) (cell * 3 + 1) 0) p →
+      LeavesMasks (Write p v) (set (set (t masks) (cell * 3) x) (cell * 3 + 1) z)
   unfolding effect stores_by store_by slice_number cell_by_cell width
-  write_masks p v w w' e d r =
+  write_masks p v x z e d r =
       let n : cell * 3 + 1 ≢ cell * 3 = omega arith in
-      let b = get_or-set_other (t masks) (cell * 3) (cell * 3 + 1) (with_board (get_or (t masks) (cell * 3) 0) p) 0 n in
-      rw (d, e, b, a_live, a_dirty, at_0)
+      let b = get_or-set_other (t masks) (cell * 3) (cell * 3 + 1) x 0 n in
+      rw (d, b, e, a_live, a_dirty, at_0)
 
   pub barrier_masks : (p : ℕ) → LeavesMasks (Barrier p) (t masks)
   unfolding effect stores_by store_by slice_number cell_by_cell width
   barrier_masks p r = refl
 
-  pub mtoc_masks : (p : ℕ) (w' : List ℕ) → Put (cell * 3) p (t masks) w' → LeavesMasks (MtoC p) w'
+  pub mtoc_masks : (p x : ℕ) → x ≡ with_board (mask (cell * 3)) p → LeavesMasks (MtoC p) (set (t masks) (cell * 3) x)
   unfolding effect stores_by store_by slice_number cell_by_cell width
-  mtoc_masks p w' e r = rw (e, a_live, at_0)
+  mtoc_masks p x e r = rw (e, a_live, at_0)
 
-  pub ctom_masks : (p : ℕ) (w' : List ℕ) → Taken (cell * 3 + 1) p (t masks) w' → LeavesMasks (CtoM p) w'
+  pub ctom_masks : (p x : ℕ) → x ≡ without_board (mask (cell * 3 + 1)) p → LeavesMasks (CtoM p) (set (t masks) (cell * 3 + 1) x)
   unfolding effect stores_by store_by slice_number cell_by_cell width
-  ctom_masks p w' e r = rw (e, a_dirty)
+  ctom_masks p x e r = rw (e, a_dirty)
 
-  pub ctoc_masks : (p q : ℕ) (w' : List ℕ) → Put (cell * 3) q (t masks) w' → LeavesMasks (CtoC p q) w'
+  pub ctoc_masks : (p q x : ℕ) → x ≡ with_board (mask (cell * 3)) q → LeavesMasks (CtoC p q) (set (t masks) (cell * 3) x)
   unfolding effect stores_by store_by slice_number cell_by_cell width
-  ctoc_masks p q w' e r = rw (e, a_live, at_0)
+  ctoc_masks p q x e r = rw (e, a_live, at_0)
 
-  pub drop_masks : (p : ℕ) (w' : List ℕ) → Taken (cell * 3) p (t masks) w' → LeavesMasks (Drop p) w'
+  pub drop_masks : (p x : ℕ) → x ≡ without_board (mask (cell * 3)) p → LeavesMasks (Drop p) (set (t masks) (cell * 3) x)
   unfolding effect stores_by store_by slice_number cell_by_cell width
-  drop_masks p w' e r = rw (e, a_live, at_0)
+  drop_masks p x e r = rw (e, a_live, at_0)
 
-  pub acquire_masks : (p : ℕ) (w' : List ℕ) → Put (cell * 3 + 2) p (t masks) w' → LeavesMasks (Acquire p) w'
+  pub acquire_masks : (p x : ℕ) → x ≡ with_board (mask (cell * 3 + 2)) p → LeavesMasks (Acquire p) (set (t masks) (cell * 3 + 2) x)
   unfolding effect stores_by store_by slice_number cell_by_cell width
-  acquire_masks p w' e r = rw (e, a_lock)
+  acquire_masks p x e r = rw (e, a_lock)
 
-  pub release_masks : (p : ℕ) (w' : List ℕ) → Taken (cell * 3 + 2) p (t masks) w' → LeavesMasks (Release p) w'
+  pub release_masks : (p x : ℕ) → x ≡ without_board (mask (cell * 3 + 2)) p → LeavesMasks (Release p) (set (t masks) (cell * 3 + 2) x)
   unfolding effect stores_by store_by slice_number cell_by_cell width
-  release_masks p w' e r = rw (e, a_lock)
+  release_masks p x e r = rw (e, a_lock)

@@ -2,7 +2,7 @@
 use mathlib.Core.Path.{◌≡◌, refl, sym, ◌∙◌}
 use mathlib.Core.Bool.{Bool, true, false, not}
 use mathlib.Core.List.{[], ◌∷◌}
-use Prim.Native.Nat.{ℕ, ◌≤◌}
+use Prim.Native.Nat.{ℕ}
 use native.Mathlib.Omega.{arith}
 use native.Mathlib.Decide.{ℕ_discrete}
 use lib.Dec.{eqb, ltb}
@@ -12,31 +12,12 @@ use Rattle.protocol.specs.declared.Action.{Action}
 use Rattle.protocol.specs.declared.Proc.{Proc}
 use Rattle.protocol.specs.declared.Proc.TheVariants.{Read, Write, Barrier, MtoC, CtoM, CtoC, Drop, Acquire, Release}
 use Rattle.protocol.specs.declared.Refused.{Refused}
-use Rattle.protocol.specs.declared.Rule.{Rule}
-use Rattle.protocol.specs.declared.Rule.TheVariants.{IncoherentMemory, GlobalImpl, CurrentCaches, ExclusiveLocks0, ExclusiveLocks}
-use Rattle.protocol.specs.Names.{rule_number, rule_of, proc_of}
+use Rattle.protocol.specs.Names.{proc_of}
 use Rattle.protocol.specs.Replies.{number_of_reply}
 use Rattle.protocol.specs.First.{when, first_number}
 use Rattle.protocol.specs.Step.{malformed, missing}
 use Rattle.protocol.proofs.NumberLaws.{by_code, code_fits}
 use Rattle.table.specs.Code.{EachBoard, board_of, Names}
-
--- a rule is the one of its number
-pub rule_is : (rule : Rule) → rule_of (rule_number rule) ≡ rule
-unfolding rule_of rule_number
-rule_is IncoherentMemory = refl
-rule_is GlobalImpl = refl
-rule_is CurrentCaches = refl
-rule_is ExclusiveLocks0 = refl
-rule_is ExclusiveLocks = refl
-
-pub low_number : (rule : Rule) → rule_number rule ≤ 4
-unfolding rule_number
-low_number IncoherentMemory = omega arith
-low_number GlobalImpl = omega arith
-low_number CurrentCaches = omega arith
-low_number ExclusiveLocks0 = omega arith
-low_number ExclusiveLocks = omega arith
 
 pub above_0 : (n : ℕ) → ltb 0 n ≡ not (eqb n 0)
 above_0 n = go (ℕ_discrete n 0)

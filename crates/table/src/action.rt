@@ -1,7 +1,7 @@
 // An action on a table in lent slices: what stands against it, and what it does.
 ghost use Rattle.std.specs.Prelude.{◌≡◌, ◌+◌, ◌*◌, ◌<◌, ◌≤◌, length, slice_index, slice_set, IfOk};
 ghost use Rattle.protocol.specs.Masks.{with_board, without_board};
-ghost use Rattle.protocol.specs.Names.{proc_of};
+ghost use Rattle.protocol.specs.Names.{rule_number, proc_of};
 ghost use Rattle.protocol.specs.Replies.{number_of_reply};
 ghost use Rattle.protocol.specs.Slices.{table_of};
 ghost use Rattle.protocol.specs.Step.{answer};
@@ -12,12 +12,11 @@ use crate::{cell, rules};
 use protocol::{Action, Board, MASKS_PER_CELL, Mask, Proc, Refused, Rule};
 
 // The procedure of an action that nothing stands against. Of the cells only the named one is looked at.
-pub fn judge(view: &View, rule: u8, a: Action) -> Result<Proc, Refused>
-    ensures number { number_of_reply result ≡ (answer rule view.now.boards view.now.cells (table_of view.now.main.now view.now.copies.now view.now.masks.now) a).number }
+pub fn judge(view: &View, rule: Rule, a: Action) -> Result<Proc, Refused>
+    ensures number { number_of_reply result ≡ (answer (rule_number rule) view.now.boards view.now.cells (table_of view.now.main.now view.now.copies.now view.now.masks.now) a).number }
     ensures ok { IfOk result (λ p. p ≡ proc_of a) }
 {
-    let ruled = Rule::try_from(rule)?;
-    let procedure = rules::procedure(ruled, a)?;
+    let procedure = rules::procedure(rule, a)?;
     if rules::off_board(view.boards, a) {
         return Err(Refused::OffBoard);
     }
@@ -30,15 +29,15 @@ pub fn judge(view: &View, rule: u8, a: Action) -> Result<Proc, Refused>
         number,
     };
     let m = cell.masks();
-    if !m.are_sound(ruled, view.boards) {
+    if !m.are_sound(rule, view.boards) {
         return Err(Refused::NotSound);
     }
     let now = cell.current(m.dirty);
-    if !cell.copies_sound(ruled, m.live, now) {
+    if !cell.copies_sound(rule, m.live, now) {
         return Err(Refused::NotSound);
     }
     let copy = cell.copy(a.board as usize);
-    rules::guard(ruled, m, copy, now, procedure)?;
+    rules::guard(rule, m, copy, now, procedure)?;
     Ok(procedure)
 }
 
@@ -81,22 +80,16 @@ pub fn store_values(
     }
 }
 
-// The board is put into the mask at a place.
-fn put(masks: &mut [u16], at: usize, board: usize)
-    requires { (at < length masks.old) × (board < 16) }
-    ensures { masks.new ≡ slice_set masks.old at (with_board (slice_index masks.old at) board) }
+fn put(bits: &mut u16, board: Board)
+    ensures { bits.new ≡ with_board bits.old board.number }
 {
-    let mask = Mask { bits: masks[at] };
-    masks[at] = mask.with(Board { number: board }).bits;
+    *bits = Mask { bits: *bits }.with(board).bits;
 }
 
-// The board is taken out of the mask at a place.
-fn take(masks: &mut [u16], at: usize, board: usize)
-    requires { (at < length masks.old) × (board < 16) }
-    ensures { masks.new ≡ slice_set masks.old at (without_board (slice_index masks.old at) board) }
+fn take(bits: &mut u16, board: Board)
+    ensures { bits.new ≡ without_board bits.old board.number }
 {
-    let mask = Mask { bits: masks[at] };
-    masks[at] = mask.without(Board { number: board }).bits;
+    *bits = Mask { bits: *bits }.without(board).bits;
 }
 
 // What an accepted action stores in the masks.
@@ -110,15 +103,15 @@ pub fn store_masks(masks: &mut [u16], procedure: Proc, cell: usize)
     match procedure {
         Proc::Read(_) => {}
         Proc::Write(p, _) => {
-            put(masks, live, p);
-            put(masks, dirty, p);
+            put(&mut masks[live], Board { number: p });
+            put(&mut masks[dirty], Board { number: p });
         }
         Proc::Barrier(_) => {}
-        Proc::MtoC(p) => put(masks, live, p),
-        Proc::CtoM(p) => take(masks, dirty, p),
-        Proc::CtoC(_, q) => put(masks, live, q),
-        Proc::Drop(p) => take(masks, live, p),
-        Proc::Acquire(p) => put(masks, lock, p),
-        Proc::Release(p) => take(masks, lock, p),
+        Proc::MtoC(p) => put(&mut masks[live], Board { number: p }),
+        Proc::CtoM(p) => take(&mut masks[dirty], Board { number: p }),
+        Proc::CtoC(_, q) => put(&mut masks[live], Board { number: q }),
+        Proc::Drop(p) => take(&mut masks[live], Board { number: p }),
+        Proc::Acquire(p) => put(&mut masks[lock], Board { number: p }),
+        Proc::Release(p) => take(&mut masks[lock], Board { number: p }),
     }
 }

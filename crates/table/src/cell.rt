@@ -1,4 +1,4 @@
-// One cell: its masks, and whether these and a copy are sound.
+// One cell: its masks, whether these and a copy are sound, and where a copy stands.
 ghost use Rattle.std.specs.Prelude.{◌≡◌, ◌+◌, ◌*◌, ◌<◌, ◌≤◌, ◌^◌, ltb};
 ghost use Rattle.protocol.specs.Names.{rule_number};
 ghost use Rattle.table.specs.Code.{masks_sound, copy_sound};

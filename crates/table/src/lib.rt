@@ -59,7 +59,8 @@ pub fn fresh(
     Ok(())
 }
 
-// Sound, which is `None`, or the lowest-numbered cell that is not: one pass over the cells, and at each over its boards.
+// Sound, which is `None`, or the lowest-numbered cell that is not: one pass over the cells, and at each over its boards. At the first unsound cell both
+// loops are left by the label, as the project's list of forms by place has it.
 pub fn check(
     rule: u8,
     boards: usize,
@@ -106,7 +107,8 @@ pub fn step(
     ensures { Steps boards cells (table_of main.old copies.old masks.old) rule action (answer_of result) (table_of main.new copies.new masks.new) }
 {
     let view = View::new(boards, cells, main, copies, masks)?;
-    let procedure = action::judge(&view, rule, action)?;
+    let ruled = Rule::try_from(rule)?;
+    let procedure = action::judge(&view, ruled, action)?;
     let cell = action.cell as usize;
     action::store_masks(masks, procedure, cell);
     Ok(action::store_values(boards, main, copies, procedure, cell))

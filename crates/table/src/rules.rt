@@ -55,7 +55,8 @@ pub fn procedure(rule: Rule, a: Action) -> Result<Proc, Refused>
     }
 }
 
-// The first test that refuses decides.
+// The first test that refuses decides. The tests are evaluated before any of them does; `&` and `|` join them, as nothing in them can fail, and keep
+// the proof in one piece.
 fn first(tests: &[(bool, Refused)]) -> Result<(), Refused>
     ensures { number_of_reply result ≡ first_number (map (λ t. when (reply_number t.1) t.0) tests.now) }
 {

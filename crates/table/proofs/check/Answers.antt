@@ -10,7 +10,7 @@ use Rattle.table.specs.Statements.{Checks}
 use Rattle.table.proofs.SizeLaws.{sized_good}
 use Rattle.table.proofs.ReadyLaws.{ready}
 use Rattle.table.proofs.SoundLaws.{masks_below, unsound_masks, unsound_copy, all_boards}
-use Rattle.table.proofs.ProcedureLaws.{low_number}
+use Rattle.protocol.proofs.Unique.{low_number}
 use Rattle.table.proofs.CheckLaws.{left_from, left_step, left_stop, left_end, refused_1, refused_2, found}
 use Rattle.table.proofs.check.Goals as goal
 
