@@ -1,4 +1,5 @@
-// A line of numbers: how long it is, and its bytes put at the start of a lent slice.
+// A line of numbers: how long it is, and its bytes put at the start of a lent slice. A text is measured before any of it is written, so that how long
+// it is has a function of its own beside the one that puts it; each asks the room of its own text.
 ghost use Rattle.std.specs.Prelude.{◌≡◌, ◌≤◌, length};
 ghost use Rattle.listing.specs.Listing.{line};
 ghost use Rattle.listing.specs.Code.{overwritten};

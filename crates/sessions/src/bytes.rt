@@ -1,4 +1,5 @@
 // The mark, numbers in a slice of bytes, little-endian, where the records begin, and the part of a slice from a place on.
+// The places are those of the file's form, and the two sizes of a number have a function each, as no type stands above both.
 ghost use Rattle.std.specs.Prelude.{◌≡◌, ◌+◌, ◌*◌, ◌<◌, ◌≤◌, length, drop};
 ghost use Rattle.sessions.specs.File.{le16, le32, values, records_at};
 

@@ -23,7 +23,7 @@ fn action_of(nine: &[u8; 9]) -> Action
     }
 }
 
-// 1 for an accepted action, else 0; an accepted write becomes the latest of its cell.
+// 1 for an accepted action, else 0, which is what it adds to the count; an accepted write, code 1 of a record, becomes the latest of its cell.
 fn note(action: Action, told: Result<u32, Refused>, latest: &mut [u32]) -> usize
     requires { (answer_of told).number ≡ 0 → action.cell < length latest.old }
     ensures { Noted action (answer_of told) latest.old result latest.new }

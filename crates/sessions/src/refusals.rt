@@ -52,7 +52,7 @@ fn body_bad(file: &[u8], from: usize) -> bool
     file.len() < from || records_bad(file.len() - from)
 }
 
-// Bad sizes, no such rule, or a bad body.
+// Bad sizes, no such rule, or a bad body: the conditions of the list of refusals, in its order, and the file's or the caller's number of a rule.
 #[tactic(auto, unfolding(crate::specs::FileRefusals::body_refusals), using(protocol::proofs::Unique::low_number))]
 fn judge_body(sizes_bad: bool, rule: u8, body_bad: bool) -> Result<(), Refused>
     ensures { number_of_reply result ≡ first_number (body_refusals sizes_bad rule body_bad) }

@@ -1,4 +1,4 @@
-// The bytes of a session file put into a lent slice.
+// The bytes of a session file put into a lent slice, at the places of its form. The rule goes in as the byte that it is.
 ghost use Rattle.std.specs.Prelude.{◌≡◌, ◌+◌, ◌*◌, ◌≤◌, length};
 ghost use Rattle.sessions.specs.File.{packed, headed};
 ghost use Rattle.sessions.specs.Written.{written};

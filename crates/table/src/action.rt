@@ -41,7 +41,7 @@ pub fn judge(view: &View, rule: Rule, a: Action) -> Result<Proc, Refused>
     Ok(procedure)
 }
 
-// What an accepted action stores in main and the copies, and the value that it answers.
+// What an accepted action stores in main and the copies, and the value that it answers. What is stored to stays the caller's slices.
 pub fn store_values(
     boards: usize,
     main: &mut [u32],

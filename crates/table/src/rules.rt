@@ -9,7 +9,7 @@ ghost use Rattle.table.specs.Code.{Names, EachBoard, GuardGives};
 use crate::cell::Masks;
 use protocol::{Action, Board, Proc, Refused, Rule};
 
-// A board that the action names is not below P.
+// A board that the action names is not below P. It is said of the action's numbers, as the definition of 5 is.
 #[tactic(auto, unfolding(protocol::specs::Step::off_board))]
 pub fn off_board(boards: usize, a: Action) -> bool
     ensures { result ≡ off_board boards a }
@@ -17,7 +17,7 @@ pub fn off_board(boards: usize, a: Action) -> bool
     (boards <= a.board as usize) | ((a.code == 5) & (boards <= a.to as usize))
 }
 
-// The procedure, unless an unused field is not 0, or the rule lacks the action.
+// The procedure, unless an unused field is not 0, or the rule lacks the action: the conditions of 3 and 4, in their order.
 fn named(unused: bool, lacking: bool, procedure: Proc) -> Result<Proc, Refused>
     ensures number { number_of_reply result ≡ first_number (when 3 unused ∷ when 4 lacking ∷ []) }
     ensures ok { IfOk result (λ p. p ≡ procedure) }
