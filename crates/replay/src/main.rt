@@ -18,7 +18,7 @@ fn list_next(rt: &HostRuntime) -> Option<()> {
         let _ = rt.eprintln("replay: the input ends within a file, or could not be read");
         return None;
     }
-    output::show(rt, file);
+    output::show(file);
     Some(())
 }
 

@@ -39,7 +39,7 @@ fn main(rt: HostRuntime) {
     let mut buffer = [0; 38922];
     match read_input(&mut rt.stdin(), &mut buffer) {
         Ok(length) => {
-            output::show(&rt, first_bytes(&buffer, length));
+            output::show(first_bytes(&buffer, length));
         }
         // What came before a failed read is no file.
         Err(_) => {
