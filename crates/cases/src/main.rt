@@ -28,7 +28,7 @@ fn answer_lines(to: &impl Print, input: &[u8], memory: &mut Memory) -> std::io::
     Ok(())
 }
 
-// Fills the room as far as the input goes.
+// Fills the room as far as the input goes, by the kit's `io`: std's `read_exact` wants the whole room filled, and `read_to_end` the heap.
 fn read_input<'a>(room: &'a mut [u8]) -> &'a [u8] {
     let n = io::read_full(0, room);
     &room[..n]

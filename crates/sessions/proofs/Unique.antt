@@ -10,7 +10,7 @@ use Rattle.sessions.specs.declared.Head.{Head}
 use Rattle.sessions.specs.declared.Report.{Report}
 use Rattle.sessions.specs.declared.Session.{Session}
 use Rattle.sessions.specs.Statements.{accepting, HeadOf, read_reply, Reads, Writes, run_reply, Runs, SameHead, SameSession, SameRead, SameWrite, SameRun}
-use Rattle.protocol.proofs.ReplyLaws.{one_reply, not_accepted}
+use Rattle.protocol.proofs.ReplyLaws.{one_reply, not_accepted, one_result}
 
 -- what follows from the number is the same where the number is
 pub by_number : {A : Type 0} (n n' : ℕ) (a b x y : A) → n ≡ n' → x ≡ accepting n a b → y ≡ accepting n' a b → x ≡ y
@@ -46,13 +46,7 @@ pub one_write : (rule boards cells : ℕ) (starting records old : List ℕ) (r r
     Writes rule boards cells starting records old (done_of r) out → Writes rule boards cells starting records old (done_of r') out' → SameWrite r r' out out'
 one_write rule boards cells starting records old r r' out out' f g =
     let e = f.number_is ∙ sym g.number_is in
-    record { same_result = same r r' e; same_out = by_number _ _ _ _ out out' e f.bytes g.bytes }
-  where
-    same : (r r' : Result (Unit {0}) Refused) → (done_of r).number ≡ (done_of r').number → r ≡ r'
-    same (Ok u) (Ok u') e = refl
-    same (Err d) (Err d') e = ap Err (one_reply d d' e)
-    same (Ok u) (Err d) e = absurd (not_accepted d (sym e))
-    same (Err d) (Ok u) e = absurd (not_accepted d e)
+    record { same_result = one_result r r' e (λ a b p q. refl); same_out = by_number _ _ _ _ out out' e f.bytes g.bytes }
 
 pub one_run : (file : List ℕ) (t : Table) (numbers values : List ℕ) (r r' : Result Report Refused) (t₁ t₂ : Table) (numbers₁ numbers₂ values₁ values₂ : List ℕ) →
     Runs file t numbers values (run_reply r) t₁ numbers₁ values₁ → Runs file t numbers values (run_reply r') t₂ numbers₂ values₂ → SameRun r r' t₁ t₂ numbers₁ numbers₂ values₁ values₂
