@@ -21,11 +21,11 @@ fn answer(to: &impl Print, line: &[u8], memory: &mut Memory) -> std::io::Result<
     }
 }
 
-fn answer_lines(to: &impl Print, input: &[u8], memory: &mut Memory) -> std::io::Result<()> {
+// What cannot be written is left out, and nothing is said of it; the answers go on.
+fn answer_lines(to: &impl Print, input: &[u8], memory: &mut Memory) {
     for line in input.split_inclusive(|b| *b == b'\n') {
-        answer(to, line.strip_suffix(b"\n").unwrap_or(line), memory)?;
+        let _ = answer(to, line.strip_suffix(b"\n").unwrap_or(line), memory);
     }
-    Ok(())
 }
 
 // Fills the room as far as the input goes, by the kit's `io`: std's `read_exact` wants the whole room filled, and `read_to_end` the heap.
@@ -39,9 +39,8 @@ fn make_room() -> [u8; 3000000] {
     [0; 3000000]
 }
 
-// Where a line cannot be written the answers end, and nothing is said of it.
 fn main(rt: HostRuntime) {
     let mut room = make_room();
     let mut memory = Memory::new();
-    let _ = answer_lines(&rt, read_input(&mut room), &mut memory);
+    answer_lines(&rt, read_input(&mut room), &mut memory);
 }

@@ -70,7 +70,7 @@ pub struct Reply<const N: usize>(pub Result<[usize; N], Refused>);
 impl<const N: usize> Display for Reply<N> {
     fn fmt<W: fmt::Write>(&self, f: &mut Formatter<W>) -> fmt::Result {
         let (number, answered) = match self.0 {
-            Ok(answered) => (0, answered),
+            Ok(answered) => (protocol::ACCEPTED, answered),
             Err(refused) => (refused.number(), [0; N]),
         };
         write!(f, "{number}")?;

@@ -22,4 +22,4 @@ returns c =
     let l = c.loop-i in
     let run = c.args.self.now in
     let all : l.i ≡ run.head.count = omega arith in
-    omega (arith, rw all at l.invariant.sum_is, length_listing _ _ _ _ _ run.told, c.width.ensures.length, ap (λ ns. length (line ns)) c.last-last.ensures)
+    omega (arith, rw all at l.invariant.sum_is, length_listing _ _ _ _ _ run.told, rw c.last-last.ensures at c.width.ensures.length)
