@@ -1,6 +1,7 @@
 -- No two replies have one number, and none has 0: an answer tells its result. Assumes nothing.
 use Rattle.std.proofs.Common.{◌≡◌, refl, sym, ap, ◌∙◌, arith}
 use Rattle.std.specs.Prelude.{◌≢◌, ℕ, List, [], ◌∷◌, get_or, Result, Ok, Err}
+use Rattle.protocol.specs.declared.Answer.{Answer}
 use Rattle.protocol.specs.declared.Refused.{Refused}
 use Rattle.protocol.specs.declared.Refused.TheVariants.{BadSizes, BadRule, Malformed, Missing, OffBoard, NoSuchCell, NotSound}
 use Rattle.protocol.specs.declared.Refused.TheVariants.{NotLive, IsDirty, NotDirty, DirtyElsewhere, AnotherCopy, LockBars, LockNotHeld, NotCurrent, StillLive}
@@ -64,6 +65,10 @@ not_accepted e z =
     let b : BadSizes ≡ e = ap (λ n. get_or replies n BadSizes) (sym z) ∙ reply_with e in
     let d : ◌≡◌ {A = ℕ} 1 0 = ap reply_number b ∙ z in
     omega arith
+
+-- answers of one number and one value are the same
+pub same_answer : (r r' : Answer) → r.number ≡ r'.number → r.value ≡ r'.value → r ≡ r'
+same_answer r r' number value = λ i. record { number = number i; value = value i }
 
 -- two results have one number: they refuse alike, and accepted they are the same where they hold the same
 pub one_result : {A : Type 0} (r r' : Result A Refused) → number_of_reply r ≡ number_of_reply r' → ((a a' : A) → r ≡ Ok a → r' ≡ Ok a' → a ≡ a') → r ≡ r'

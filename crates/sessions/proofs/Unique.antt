@@ -12,7 +12,7 @@ use Rattle.sessions.specs.declared.Report.{Report}
 use Rattle.sessions.specs.declared.Session.{Session}
 use Rattle.table.specs.Statements.{Holds}
 use Rattle.sessions.specs.Statements.{accepting, HeadOf, ReadReply, read_reply, Reads, Writes, RunReply, run_reply, Runs, SameHead, SameSession, SameRead, SameWrite, SameRun}
-use Rattle.protocol.proofs.ReplyLaws.{one_reply, not_accepted, one_result}
+use Rattle.protocol.proofs.ReplyLaws.{same_answer, one_reply, not_accepted, one_result}
 
 -- what follows from the number is the same where the number is
 pub by_number : {A : Type 0} (n n' : ℕ) (a b x y : A) → n ≡ n' → x ≡ accepting n a b → y ≡ accepting n' a b → x ≡ y
@@ -53,8 +53,7 @@ pub one_write_answer : (rule boards cells : ℕ) (starting records old : List �
     Writes rule boards cells starting records old r out → Writes rule boards cells starting records old r' out' → (r ≡ r') × (out ≡ out')
 one_write_answer rule boards cells starting records old r r' out out' f g =
     let number = f.number_is ∙ sym g.number_is in
-    let value = f.value_is ∙ sym g.value_is in
-    (λ i. record { number = number i; value = value i }, by_number _ _ _ _ out out' number f.bytes g.bytes)
+    (same_answer r r' number (f.value_is ∙ sym g.value_is), by_number _ _ _ _ out out' number f.bytes g.bytes)
 
 pub one_write : (rule boards cells : ℕ) (starting records old : List ℕ) (r r' : Result (Unit {0}) Refused) (out out' : List ℕ) →
     Writes rule boards cells starting records old (done_of r) out → Writes rule boards cells starting records old (done_of r') out' → SameWrite r r' out out'

@@ -12,17 +12,12 @@ use Rattle.protocol.specs.Fresh.{fresh_table}
 use Rattle.protocol.specs.Runs.{CoherentRule, Line, log_by, log, table_after_all_by, table_after_all, accepted_read, latest_write, naming}
 use Rattle.protocol.proofs.Demand3Reads.{reads_latest}
 use Rattle.protocol.proofs.Demand3Order.{same_answers, same_end}
+use Rattle.protocol.proofs.ReplyLaws.{same_answer}
 use Rattle.table.specs.Statements.{Holds, Freshens}
 use Rattle.table.specs.Calls.{Call, Calls, left_by, lines_of, actions_of}
 use Rattle.table.proofs.Promises.{held, fresh_is_accepted, fresh_gives}
 
 -- ---- the calls are a run of their actions
-
-same_answer : (r r' : Answer) → r.number ≡ r'.number → r.value ≡ r'.value → r ≡ r'
-same_answer r r' e d = ap (λ (n : ℕ). answered n r.value) e ∙ ap (λ (v : ℕ). answered r'.number v) d
-  where
-    answered : (number value : ℕ) → Answer
-    answered n v = record { number = n; value = v }
 
 module _ (rule boards cells : ℕ) where
   lines_are : (t : Table) (calls : List Call) → Calls rule boards cells t calls → lines_of calls ≡ log rule boards cells t (actions_of calls)

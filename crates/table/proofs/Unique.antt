@@ -9,11 +9,8 @@ use Rattle.protocol.specs.declared.Answer.{Answer}
 use Rattle.protocol.specs.declared.Refused.{Refused}
 use Rattle.protocol.specs.Replies.{answer_of, done_of}
 use Rattle.protocol.specs.Slices.{Table, in_range, sizes_good}
-use Rattle.protocol.proofs.ReplyLaws.{one_result, one_answer}
+use Rattle.protocol.proofs.ReplyLaws.{same_answer, one_result, one_answer}
 use Rattle.table.specs.Statements.{Holds, Freshens, Checks, Steps, Same}
-
-same : (r r' : Answer) → r.number ≡ r'.number → r.value ≡ r'.value → r ≡ r'
-same r r' number value = λ i. record { number = number i; value = value i }
 
 pub one_range : (boards cells : ℕ) (r r' : Bool) → r ≡ in_range boards cells → r' ≡ in_range boards cells → r ≡ r'
 one_range boards cells r r' e d = e ∙ sym d
@@ -23,7 +20,7 @@ module _ (boards cells : ℕ) (t : Table) where
   one_sizes r r' e d = e ∙ sym d
 
   pub one_fresh_answer : (starting : List ℕ) (r r' : Answer) (t₁ t₂ : Table) → Freshens boards cells t starting r t₁ → Freshens boards cells t starting r' t₂ → (r ≡ r') × Holds t₁ t₂
-  one_fresh_answer starting r r' t₁ t₂ f g = (same r r' (f.number ∙ sym g.number) (f.value ∙ sym g.value), λ s. f.slices s ∙ sym (g.slices s))
+  one_fresh_answer starting r r' t₁ t₂ f g = (same_answer r r' (f.number ∙ sym g.number) (f.value ∙ sym g.value), λ s. f.slices s ∙ sym (g.slices s))
 
   pub one_fresh : (starting : List ℕ) (r r' : Result (Unit {0}) Refused) (t₁ t₂ : Table) → Freshens boards cells t starting (done_of r) t₁ → Freshens boards cells t starting (done_of r') t₂ → Same r r' t₁ t₂
   one_fresh starting r r' t₁ t₂ f g =
@@ -34,7 +31,7 @@ module _ (boards cells : ℕ) (t : Table) where
   one_check rule r r' f g = one_result r r' (f.number ∙ sym g.number) (λ a b p q. rw p at f.accepted ∙ sym (rw q at g.accepted))
 
   pub one_step_answer : (rule : ℕ) (a : Action) (r r' : Answer) (t₁ t₂ : Table) → Steps boards cells t rule a r t₁ → Steps boards cells t rule a r' t₂ → (r ≡ r') × Holds t₁ t₂
-  one_step_answer rule a r r' t₁ t₂ f g = (same r r' (f.number ∙ sym g.number) (f.value ∙ sym g.value), λ s. f.slices s ∙ sym (g.slices s))
+  one_step_answer rule a r r' t₁ t₂ f g = (same_answer r r' (f.number ∙ sym g.number) (f.value ∙ sym g.value), λ s. f.slices s ∙ sym (g.slices s))
 
   pub one_step : (rule : ℕ) (a : Action) (r r' : Result ℕ Refused) (t₁ t₂ : Table) → Steps boards cells t rule a (answer_of r) t₁ → Steps boards cells t rule a (answer_of r') t₂ → Same r r' t₁ t₂
   one_step rule a r r' t₁ t₂ f g =
