@@ -31,7 +31,8 @@ fn store_group<'a, T: Copy + FromStr<Err = ParseIntError>>(
 }
 
 // Stores a group as often as a count and a star before it say: it is read once, and behind it each number repeats the one that stands a group before.
-// Behind a count of 0 stands none. Most groups are one number and have no count, so its digits are not read twice.
+// Behind a count of 0 stands none. Most groups are one number and have no count: that number is stored here, as its digits are split off already.
+// One loop for all the numbers of a group, in `store_group` alone, was tried, and took up to a seventh longer.
 fn store<'a, T: Copy + FromStr<Err = ParseIntError>>(
     text: &'a str,
     room: &mut [T],
